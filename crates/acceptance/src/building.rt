@@ -87,6 +87,11 @@ fn values_of_either_width(rt: HostRuntime) -> Result<(), Fail> {
             b"M: DO; DECLARE A BYTE, B WORD; A, B = 300; OUTPUT(300H) = A; OUTWORD(302H) = B; OUTPUT(304H) = (A := 5) + A; END M;",
             b"OUT 0300 2C\nOUTW 0302 012C\nOUT 0304 0A\nEND 2000\n",
         ),
+        // 200 + 100, 100 - 200, 0C8H OR 67H, and low bytes of words.
+        (
+            b"M: DO; DECLARE (A, B, C) BYTE, W WORD; B = 200; C = 100; W = 1234H; A = B + C; OUTPUT(300H) = A; A = C - B; OUTPUT(301H) = A; A = B OR (C XOR 3); OUTPUT(302H) = A; A = W AND 0FH; OUTPUT(303H) = A; A = W; OUTPUT(304H) = A; OUTPUT(305H) = W + C; END M;",
+            b"OUT 0300 2C\nOUT 0301 9C\nOUT 0302 EF\nOUT 0303 04\nOUT 0304 34\nOUT 0305 98\nEND 2000\n",
+        ),
     ];
     all_write(&rt, rt.alloc(), ROWS)
 }
@@ -312,19 +317,19 @@ fn puts_out(alloc: Global, bytes: u16) -> Result<Vec<u8>, Fault> {
     Ok(text)
 }
 
-/// Each byte that is put out takes MOV AX,1; MOV DX,300H; OUT DX,AL, 7 bytes: 1,200 are past 8 KiB, and not past 16.
+/// Each byte that is put out takes MOV AL,1; MOV DX,300H; OUT DX,AL, 6 bytes: 1,400 are past 8 KiB, and not past 16.
 #[test]
 fn code_past_the_rom(rt: HostRuntime) -> Result<(), Fail> {
     let alloc = rt.alloc();
-    let text = puts_out(alloc, 1200)?;
+    let text = puts_out(alloc, 1400)?;
     assert_eq!(rt;
         outcome(built(alloc, &[&text], RomSize::Kib8)),
         Some((0, 1, Number::E601))
     );
     let mut trace = Vec::new(alloc);
-    for _ in 0..1200 {
+    for _ in 0..1400 {
         trace.extend_from_slice(b"OUT 0300 01\n")?;
     }
-    trace.extend_from_slice(b"END 5000\n")?;
-    writes(&rt, alloc, &[&text], RomSize::Kib16, b"STOP 5000", &trace)
+    trace.extend_from_slice(b"END 6000\n")?;
+    writes(&rt, alloc, &[&text], RomSize::Kib16, b"STOP 6000", &trace)
 }

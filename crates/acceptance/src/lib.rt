@@ -31,6 +31,8 @@ mod listing;
 #[cfg(test)]
 mod literals;
 #[cfg(test)]
+mod low_bytes;
+#[cfg(test)]
 mod lowering;
 #[cfg(test)]
 mod meaning;

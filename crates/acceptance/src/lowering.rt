@@ -4,7 +4,7 @@
 use crate::expect::Expect;
 use crate::meaning::run;
 use crate::sources::{code_of, program_of, seen, then};
-use icode::{Code, Instruction, Machine, RamObjects, Routine, Step, Stop};
+use icode::{Code, High, Instruction, LowByte, Machine, RamObjects, Routine, Step, Stop};
 use lower::lower;
 use plm_decl::{Datum, Names};
 use plm_type::{Line, Program};
@@ -739,14 +739,14 @@ fn modules_have_sections(rt: HostRuntime) -> Result<(), Fail> {
 fn is_serving(rt: &impl Abort, code: &Code) {
     // A procedure that gives no value ends by Leave alone, one that serves a vector by Finish.
     const CALLED: &[Instruction] = &[
-        Instruction::Constant(0),
+        Instruction::Low(LowByte::Constant(0), High::Kept),
         Instruction::SendTo(Width::Byte, 0x61),
         Instruction::Leave,
     ];
     const SERVING: &[Instruction] = &[
-        Instruction::ReceiveFrom(Width::Byte, 0x60),
+        Instruction::Low(LowByte::ReceiveFrom(0x60), High::Kept),
         Instruction::SendTo(Width::Byte, 0x300),
-        Instruction::Constant(0x80),
+        Instruction::Low(LowByte::Constant(0x80), High::Kept),
         Instruction::SendTo(Width::Byte, 0x61),
         Instruction::Invoke(0),
         Instruction::Finish,

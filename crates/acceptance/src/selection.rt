@@ -35,8 +35,8 @@ pub(crate) fn section_of(alloc: Global, code: &Code, section: usize) -> Result<V
 fn sections_are_in_order(rt: HostRuntime) -> Result<(), Fail> {
     let alloc = rt.alloc();
     let code = two_modules(alloc)?;
-    // PUSH AX; MOV AX,5; OUT 0E0H,AL; POP AX; IRET
-    let handler = [0x50, 0xB8, 5, 0, 0xE6, 0xE0, 0x58, 0xCF];
+    // PUSH AX; MOV AL,5; OUT 0E0H,AL; POP AX; IRET
+    let handler = [0x50, 0xB0, 5, 0xE6, 0xE0, 0x58, 0xCF];
     // STI; HLT; JMP back
     let main = [0xFB, 0xF4, 0xEB, 0xFC];
     let parts = select(alloc, &code)?;
@@ -52,6 +52,67 @@ fn sections_are_in_order(rt: HostRuntime) -> Result<(), Fail> {
     let second = section_of(alloc, &code, 1)?;
     assert_eq!(rt; second.len(), 1);
     assert!(rt; is_part(&second[0], Entry::Main, &main));
+    Ok(())
+}
+
+/// Loops whose body is empty, and main's bytes, which halt behind the loop. An index has offset 0 before the parts are placed.
+const ROUNDS: &[(&[u8], &[u8])] = &[
+    // MOV AL,1; MOV [I],AL. A round: MOV AL,[I]; CMP AL,3; JA. Its end: MOV AL,[I]; INC AL; MOV [I],AL; JNZ.
+    (
+        b"M: DO; DECLARE I BYTE; DO I = 1 TO 3; END; END M;",
+        &[
+            0xB0, 1, 0xA2, 0, 0, 0xA0, 0, 0, 0x3C, 3, 0x77, 10, 0xA0, 0, 0, 0xFE, 0xC0, 0xA2, 0, 0,
+            0x75, 0xEF, 0xFB, 0xF4, 0xEB, 0xFC,
+        ],
+    ),
+    // ADD AL,2 leaves a carry where the sum is above 255: JNC.
+    (
+        b"M: DO; DECLARE I BYTE; DO I = 1 TO 3 BY 2; END; END M;",
+        &[
+            0xB0, 1, 0xA2, 0, 0, 0xA0, 0, 0, 0x3C, 3, 0x77, 10, 0xA0, 0, 0, 4, 2, 0xA2, 0, 0, 0x73,
+            0xEF, 0xFB, 0xF4, 0xEB, 0xFC,
+        ],
+    ),
+    // By 300 no sum fits a byte: ADD AL,44, and no jump.
+    (
+        b"M: DO; DECLARE I BYTE; DO I = 1 TO 3 BY 300; END; END M;",
+        &[
+            0xB0, 1, 0xA2, 0, 0, 0xA0, 0, 0, 0x3C, 3, 0x77, 8, 0xA0, 0, 0, 4, 44, 0xA2, 0, 0, 0xFB,
+            0xF4, 0xEB, 0xFC,
+        ],
+    ),
+    // MOV AX,[I]; INC AX; MOV [I],AX; JNZ.
+    (
+        b"M: DO; DECLARE I WORD; DO I = 1 TO 3; END; END M;",
+        &[
+            0xB8, 1, 0, 0xA3, 0, 0, 0xA1, 0, 0, 0x3D, 3, 0, 0x77, 9, 0xA1, 0, 0, 0x40, 0xA3, 0, 0,
+            0x75, 0xEF, 0xFB, 0xF4, 0xEB, 0xFC,
+        ],
+    ),
+    // MOV AX,[I]; ADD AX,300; MOV [I],AX; JNC.
+    (
+        b"M: DO; DECLARE I WORD; DO I = 1 TO 3 BY 300; END; END M;",
+        &[
+            0xB8, 1, 0, 0xA3, 0, 0, 0xA1, 0, 0, 0x3D, 3, 0, 0x77, 11, 0xA1, 0, 0, 5, 44, 1, 0xA3,
+            0, 0, 0x73, 0xED, 0xFB, 0xF4, 0xEB, 0xFC,
+        ],
+    ),
+];
+
+fn is_main(part: &Part, bytes: &[u8]) -> bool {
+    part.entry == Entry::Main && part.bytes.as_slice() == bytes
+}
+
+/// The end of a round asks for the flags of its sum, which MOV leaves. INC leaves the carry as it was, and INC AX says nothing of AL.
+#[test]
+fn rounds_end_by_flags(rt: HostRuntime) -> Result<(), Fail> {
+    let alloc = rt.alloc();
+    for (text, bytes) in ROUNDS {
+        let code = code_of(alloc, &[*text])?;
+        let parts = select(alloc, &code)?;
+        assert_eq!(rt; parts.len(), 2);
+        assert!(rt; is_main(&parts[0], bytes));
+    }
     Ok(())
 }
 

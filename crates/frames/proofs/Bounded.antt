@@ -1,14 +1,18 @@
 -- No run has more words on its stack than the paths of calls push.
-use Rattle.std.proofs.Common.{◌≡◌, ℕ, zero, suc, ◌+◌, ◌-◌, ◌≤◌, Bool, true, false, if◌then◌else◌, List, [], ◌∷◌, length, take, drop, Option, Some, None, slice_get, refl, sym, ap, ◌∙◌, subst, arith, ◌⊎◌, inl, inr}
+use Rattle.std.proofs.Common.{◌≡◌, ℕ, zero, suc, ◌+◌, ◌/◌, ◌%◌, ◌-◌, ◌≤◌, Bool, true, false, if◌then◌else◌, List, [], ◌∷◌, length, take, drop, Option, Some, None, slice_get, refl, sym, ap, ◌∙◌, subst, arith, ◌⊎◌, inl, inr}
 use Rattle.std.specs.Prelude.{nat_lt, nat_le}
 use Rattle.std.proofs.lemmas.Option.{none-some, same_Some}
 use Rattle.word86.specs.declared.width.Width.{Width}
+use Rattle.word86.specs.declared.width.Width.TheVariants as widths
 use Rattle.word86.specs.Access.{Access, Where}
 use Rattle.word86.specs.Action.{Action, Silent, Touch, Enable, Disable, Halt, Over, Bad}
+use Rattle.word86.specs.Arithmetic.{low}
 use Rattle.word86.specs.Operation.{unary_value, binary_value}
 use Rattle.word86.specs.Place.{bytes, held}
 use Rattle.icode.specs.declared.instruction.Instruction.{Instruction}
 use Rattle.icode.specs.declared.instruction.Instruction.TheVariants as op
+use Rattle.icode.specs.declared.instruction.LowByte.TheVariants as lows
+use Rattle.icode.specs.declared.instruction.Right.TheVariants as rights
 use Rattle.icode.specs.declared.instruction.Test.{Test}
 use Rattle.icode.specs.declared.instruction.Test.TheVariants as test
 use Rattle.icode.specs.declared.code.Routine.{Routine}
@@ -16,7 +20,7 @@ use Rattle.icode.specs.declared.code.Routine.TheVariants.{Nowhere}
 use Rattle.icode.specs.declared.code.Position.{Position}
 use Rattle.icode.specs.declared.code.Word.{Word}
 use Rattle.icode.specs.declared.code.Word.TheVariants.{Value, Return}
-use Rattle.icode.specs.Machine.{Context, At, is_odd, stands, address, found, operated, computed, value_in, with_value, loaded, stored, switched, jumped, run_at, does}
+use Rattle.icode.specs.Machine.{Context, At, is_odd, stands, address, found, operated, computed, value_in, with_value, loaded, stored, with_low, switched, jumped, run, run_at, does, settled, of_bytes}
 use Rattle.icode.specs.Heights.{popped, after, behind, height, HasHeights}
 use Rattle.icode.specs.Counted.{IsPath, words_along, IsDepth}
 use Rattle.icode.specs.Runs.{Leads, Comes}
@@ -143,6 +147,18 @@ module _ (offsets sizes : List ℕ) (code : Routine → List Instruction) (has_h
       let h' : Shape 0 ps ws = (let e' : k ≡ 0 = omega (arith, e) in subst (λ n. Shape n ps ws) e' h) in
       loads read (found offsets sizes read x (address offsets sizes x 0)) (λ v. At r (if stands o a v then p else q) a ws)
       (λ v. either (stands o a v) r p q a ws (to r p a 0 ps ws path ep h') (to r q a 0 ps ws path eq h'))
+  jumps (test.Low o (rights.Constant n)) r p q a k ps ws path e ep eq h =
+      let h' : Shape 0 ps ws = (let e' : k ≡ 0 = omega (arith, e) in subst (λ n. Shape n ps ws) e' h) in
+      either (stands o (a % 256) (n % 256)) r p q a ws (to r p a 0 ps ws path ep h') (to r q a 0 ps ws path eq h')
+  jumps (test.Low o (rights.Plain x)) r p q a k ps ws path e ep eq h =
+      let h' : Shape 0 ps ws = (let e' : k ≡ 0 = omega (arith, e) in subst (λ n. Shape n ps ws) e' h) in
+      loads widths.Byte (found offsets sizes widths.Byte x (address offsets sizes x 0)) (λ v. At r (if stands o (a % 256) v then p else q) a ws)
+      (λ v. either (stands o (a % 256) v) r p q a ws (to r p a 0 ps ws path ep h') (to r q a 0 ps ws path eq h'))
+  jumps (test.Low o rights.Top) r p q a k ps [] path e ep eq h = tt
+  jumps (test.Low o rights.Top) r p q a k ps (Return w ∷ ws) path e ep eq h = tt
+  jumps (test.Low o rights.Top) r p q a k ps (Value v ∷ ws) path e ep eq h =
+      let h' : Shape 0 ps ws = subst (λ n. Shape n ps ws) e (taken k ps v ws h) in
+      either (stands o (v % 256) (a % 256)) r p q a ws (to r p a 0 ps ws path ep h') (to r q a 0 ps ws path eq h')
   jumps (test.Top o) r p q a k ps [] path e ep eq h = tt
   jumps (test.Top o) r p q a k ps (Return w ∷ ws) path e ep eq h = tt
   jumps (test.Top o) r p q a k ps (Value v ∷ ws) path e ep eq h =
@@ -179,6 +195,18 @@ module _ (offsets sizes : List ℕ) (code : Routine → List Instruction) (has_h
   step (Some (op.Load width x)) r p a ps ws e path h = loads width (found offsets sizes width x (address offsets sizes x 0)) (λ v. At r (p + 1) v ws) (λ v. to r (p + 1) v _ ps ws path (next_height p (code r) (op.Load width x) e) h)
   step (Some (op.LoadAt width x)) r p a ps ws e path h = loads width (found offsets sizes width x (address offsets sizes x a)) (λ v. At r (p + 1) v ws) (λ v. to r (p + 1) v _ ps ws path (next_height p (code r) (op.LoadAt width x) e) h)
   step (Some (op.LoadThere width)) r p a ps ws e path h = loads width (held 0 offsets sizes a (bytes width)) (λ v. At r (p + 1) v ws) (λ v. to r (p + 1) v _ ps ws path (next_height p (code r) (op.LoadThere width) e) h)
+  step (Some (op.Low (lows.Constant k) high)) r p a ps ws e path h = to r (p + 1) (settled high a (k % 256)) _ ps ws path (next_height p (code r) (op.Low (lows.Constant k) high) e) h
+  step (Some (op.Low (lows.Load x) high)) r p a ps ws e path h = loads widths.Byte (found offsets sizes widths.Byte x (address offsets sizes x 0)) (λ v. At r (p + 1) (settled high a v) ws) (λ v. to r (p + 1) (settled high a v) _ ps ws path (next_height p (code r) (op.Low (lows.Load x) high) e) h)
+  step (Some (op.Low (lows.LoadAt x) high)) r p a ps ws e path h = loads widths.Byte (found offsets sizes widths.Byte x (address offsets sizes x a)) (λ v. At r (p + 1) (settled high a v) ws) (λ v. to r (p + 1) (settled high a v) _ ps ws path (next_height p (code r) (op.Low (lows.LoadAt x) high) e) h)
+  step (Some (op.Low lows.LoadThere high)) r p a ps ws e path h = loads widths.Byte (held 0 offsets sizes a 1) (λ v. At r (p + 1) (settled high a v) ws) (λ v. to r (p + 1) (settled high a v) _ ps ws path (next_height p (code r) (op.Low lows.LoadThere high) e) h)
+  step (Some (op.Low lows.Receive high)) r p a ps ws e path h = λ v. to r (p + 1) (settled high a v) _ ps ws path (next_height p (code r) (op.Low lows.Receive high) e) h
+  step (Some (op.Low (lows.ReceiveFrom port) high)) r p a ps ws e path h = λ v. to r (p + 1) (settled high a v) _ ps ws path (next_height p (code r) (op.Low (lows.ReceiveFrom port) high) e) h
+  step (Some (op.Low lows.High high)) r p a ps ws e path h = to r (p + 1) (settled high a (a / 256)) _ ps ws path (next_height p (code r) (op.Low lows.High high) e) h
+  step (Some (op.Low (lows.Operate o (rights.Constant k)) high)) r p a ps ws e path h = to r (p + 1) (of_bytes o high a (k % 256)) _ ps ws path (next_height p (code r) (op.Low (lows.Operate o (rights.Constant k)) high) e) h
+  step (Some (op.Low (lows.Operate o (rights.Plain x)) high)) r p a ps ws e path h = loads widths.Byte (found offsets sizes widths.Byte x (address offsets sizes x 0)) (λ v. At r (p + 1) (of_bytes o high a v) ws) (λ v. to r (p + 1) (of_bytes o high a v) _ ps ws path (next_height p (code r) (op.Low (lows.Operate o (rights.Plain x)) high) e) h)
+  step (Some (op.Low (lows.Operate o rights.Top) high)) r p a ps [] e path h = tt
+  step (Some (op.Low (lows.Operate o rights.Top) high)) r p a ps (Return q ∷ ws) e path h = tt
+  step (Some (op.Low (lows.Operate o rights.Top) high)) r p a ps (Value v ∷ ws) e path h = to r (p + 1) (of_bytes o high v (a % 256)) _ ps ws path (next_height p (code r) (op.Low (lows.Operate o rights.Top) high) e) (taken (height (code r) p) ps v ws h)
   step (Some op.Push) r p a ps ws e path h = to r (p + 1) a (suc (height (code r) p)) ps (Value a ∷ ws) path (next_height p (code r) op.Push e) h
   step (Some (op.Pick n)) r p a ps ws e path h = picks (value_in (slice_get ws n)) (λ v. At r (p + 1) v ws) (λ v. to r (p + 1) v _ ps ws path (next_height p (code r) (op.Pick n) e) h)
   step (Some (op.Drop n)) r p a ps ws e path h =
@@ -203,6 +231,10 @@ module _ (offsets sizes : List ℕ) (code : Routine → List Instruction) (has_h
   step (Some (op.StoreThere width)) r p a ps (Return q ∷ ws) e path h = tt
   step (Some (op.StoreThere width)) r p a ps (Value v ∷ ws) e path h =
       stores width (held 0 offsets sizes a (bytes width)) v (At r (p + 1) v ws) (to r (p + 1) v _ ps ws path (next_height p (code r) (op.StoreThere width) e) (taken (height (code r) p) ps v ws h))
+  step (Some (op.StoreTop width x)) r p a ps [] e path h = tt
+  step (Some (op.StoreTop width x)) r p a ps (Return q ∷ ws) e path h = tt
+  step (Some (op.StoreTop width x)) r p a ps (Value v ∷ ws) e path h =
+      stores width (found offsets sizes width x (address offsets sizes x 0)) v (At r (p + 1) a ws) (to r (p + 1) a _ ps ws path (next_height p (code r) (op.StoreTop width x) e) (taken (height (code r) p) ps v ws h))
   step (Some (op.Send width)) r p a ps [] e path h = tt
   step (Some (op.Send width)) r p a ps (Return q ∷ ws) e path h = tt
   step (Some (op.Send width)) r p a ps (Value v ∷ ws) e path h = λ _. to r (p + 1) v _ ps ws path (next_height p (code r) (op.Send width) e) (taken (height (code r) p) ps v ws h)
@@ -223,6 +255,13 @@ module _ (offsets sizes : List ℕ) (code : Routine → List Instruction) (has_h
   step (Some (op.BackUnless t n)) r p a ps ws e path h =
       let f = (has_heights r).flat p (p + 1 - n) (op.BackUnless t n) e refl in
       jumps t r (p + 1) (p + 1 - n) a (height (code r) p) ps ws path (sym (next_height p (code r) (op.BackUnless t n) e) ∙ f.0) f.0 f.1 h
+  step (Some (op.Next width x s n)) r p a ps ws e path h =
+      let f = (has_heights r).flat p (p + 1 - n) (op.Next width x s n) e refl in
+      let level : height (code r) p ≡ 0 = sym (next_height p (code r) (op.Next width x s n) e) ∙ f.0 in
+      let h' : Shape 0 ps ws = subst (λ k. Shape k ps ws) level h in
+      let b = nat_lt (low width (a + s)) s in
+      let v = with_low width a (a + s) in
+      stores width (found offsets sizes width x (address offsets sizes x 0)) (a + s) (At r (if b then p + 1 else p + 1 - n) v ws) (either b r (p + 1) (p + 1 - n) v ws (to r (p + 1) v 0 ps ws path f.0 h') (to r (p + 1 - n) v 0 ps ws path f.1 h'))
   step (Some (op.Switch n)) r p a ps ws e path h =
       let f = (has_heights r).flat p (p + 1 + n) (op.Switch n) e refl in
       let level : height (code r) p ≡ 0 = sym (next_height p (code r) (op.Switch n) e) ∙ f.0 in

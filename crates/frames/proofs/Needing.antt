@@ -7,6 +7,8 @@ use Rattle.std.proofs.Math.Nat.{le-max_left}
 use Rattle.std.proofs.lemmas.Option.{none-some, same_Some}
 use Rattle.icode.specs.declared.instruction.Instruction.{Instruction}
 use Rattle.icode.specs.declared.instruction.Instruction.TheVariants as op
+use Rattle.icode.specs.declared.instruction.LowByte.TheVariants as lows
+use Rattle.icode.specs.declared.instruction.Right.TheVariants as rights
 use Rattle.icode.specs.declared.registers.Registers.{Registers}
 use Rattle.icode.specs.Heights.{after, behind}
 use Rattle.icode.specs.Registers.{joined, changes}
@@ -123,6 +125,16 @@ met_few t b _ h e = omega arith
 
 after_few : (x : Instruction) (h : ℕ) → after x h ≤ h + 1
 after_few op.Push h = omega arith
+after_few (op.Low (lows.Constant k) high) h = omega arith
+after_few (op.Low (lows.Load x) high) h = omega arith
+after_few (op.Low (lows.LoadAt x) high) h = omega arith
+after_few (op.Low lows.LoadThere high) h = omega arith
+after_few (op.Low lows.Receive high) h = omega arith
+after_few (op.Low (lows.ReceiveFrom port) high) h = omega arith
+after_few (op.Low lows.High high) h = omega arith
+after_few (op.Low (lows.Operate o (rights.Constant k)) high) h = omega arith
+after_few (op.Low (lows.Operate o (rights.Plain x)) high) h = omega arith
+after_few (op.Low (lows.Operate o rights.Top) high) h = omega arith
 after_few (op.AheadUnless t n) h = omega arith
 after_few (op.BackUnless t n) h = omega arith
 after_few _ h = omega arith

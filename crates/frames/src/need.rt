@@ -1,9 +1,9 @@
 //! What a routine needs with all that it calls.
 
 ghost use Rattle.std.specs.Prelude.{◌≡◌, ◌+◌, ◌^◌, ◌<◌, ℕ, slice_set};
-ghost use Rattle.icode.specs.Heights.{after, called, popped};
+ghost use Rattle.icode.specs.Heights.{after, after_low, after_right, called, popped};
 
-use icode::{Instruction, Registers, Test};
+use icode::{Instruction, LowByte, Registers, Right, Test};
 
 /// The most words that are pushed, and the registers that can be changed.
 #[derive(Clone, Copy)]
@@ -132,6 +132,7 @@ fn called(instruction: Instruction) -> Option<usize>
         | Instruction::Load(_, _)
         | Instruction::LoadAt(_, _)
         | Instruction::LoadThere(_)
+        | Instruction::Low(_, _)
         | Instruction::Push
         | Instruction::Pick(_)
         | Instruction::Drop(_)
@@ -142,6 +143,7 @@ fn called(instruction: Instruction) -> Option<usize>
         | Instruction::Store(_, _)
         | Instruction::StoreAt(_, _)
         | Instruction::StoreThere(_)
+        | Instruction::StoreTop(_, _)
         | Instruction::Send(_)
         | Instruction::SendTo(_, _)
         | Instruction::Receive(_)
@@ -150,6 +152,7 @@ fn called(instruction: Instruction) -> Option<usize>
         | Instruction::AheadUnless(_, _)
         | Instruction::Back(_)
         | Instruction::BackUnless(_, _)
+        | Instruction::Next(_, _, _, _)
         | Instruction::Switch(_)
         | Instruction::Case(_)
         | Instruction::Leave
@@ -165,8 +168,35 @@ fn popped(test: Test) -> usize
     ensures { result ≡ popped test }
 {
     match test {
-        Test::Top(_) => 1,
+        Test::Top(_) | Test::Low(_, Right::Top) => 1,
+        Test::Low(_, Right::Constant(_)) | Test::Low(_, Right::Plain(_)) => 0,
         Test::Odd | Test::Constant(_, _) | Test::Plain(_, _, _) => 0,
+    }
+}
+
+// How many values of `height` are left once an operator has its right operand.
+fn height_after_right(right: Right, height: usize) -> usize
+    ensures { result ≡ after_right right height }
+{
+    match right {
+        Right::Constant(_) | Right::Plain(_) => height,
+        Right::Top => height.saturating_sub(1),
+    }
+}
+
+// The same of what the low byte gets.
+fn height_after_low(low: LowByte, height: usize) -> usize
+    ensures { result ≡ after_low low height }
+{
+    match low {
+        LowByte::Operate(_, right) => height_after_right(right, height),
+        LowByte::Constant(_)
+        | LowByte::Load(_)
+        | LowByte::LoadAt(_)
+        | LowByte::LoadThere
+        | LowByte::Receive
+        | LowByte::ReceiveFrom(_)
+        | LowByte::High => height,
     }
 }
 
@@ -178,9 +208,11 @@ pub fn height_after(instruction: Instruction, height: usize) -> usize
     match instruction {
         Instruction::Push => height + 1,
         Instruction::Drop(count) => height.saturating_sub(count),
+        Instruction::Low(low, _) => height_after_low(low, height),
         Instruction::Binary(_, _)
         | Instruction::StoreAt(_, _)
         | Instruction::StoreThere(_)
+        | Instruction::StoreTop(_, _)
         | Instruction::Send(_) => height.saturating_sub(1),
         Instruction::AheadUnless(test, _) | Instruction::BackUnless(test, _) => {
             height.saturating_sub(popped(test))
@@ -201,6 +233,7 @@ pub fn height_after(instruction: Instruction, height: usize) -> usize
         | Instruction::ReceiveFrom(_, _)
         | Instruction::Ahead(_)
         | Instruction::Back(_)
+        | Instruction::Next(_, _, _, _)
         | Instruction::Switch(_)
         | Instruction::Case(_)
         | Instruction::Invoke(_)

@@ -4,6 +4,10 @@ use Rattle.icode.specs.declared.instruction.Instruction.{Instruction}
 use Rattle.icode.specs.declared.instruction.Instruction.TheVariants as op
 use Rattle.icode.specs.declared.instruction.Test.{Test}
 use Rattle.icode.specs.declared.instruction.Test.TheVariants as test
+use Rattle.icode.specs.declared.instruction.LowByte.{LowByte}
+use Rattle.icode.specs.declared.instruction.LowByte.TheVariants as lows
+use Rattle.icode.specs.declared.instruction.Right.{Right}
+use Rattle.icode.specs.declared.instruction.Right.TheVariants as rights
 use Rattle.icode.specs.declared.code.Procedure.{Procedure}
 
 -- ---- heights
@@ -13,6 +17,25 @@ popped test.Odd = 0
 popped (test.Constant o k) = 0
 popped (test.Plain o read x) = 0
 popped (test.Top o) = 1
+popped (test.Low o (rights.Constant k)) = 0
+popped (test.Low o (rights.Plain x)) = 0
+popped (test.Low o rights.Top) = 1
+
+-- how many values of this number are left once an operator has its right operand
+abbrev pub after_right : Right → ℕ → ℕ
+after_right (rights.Constant k) h = h
+after_right (rights.Plain x) h = h
+after_right rights.Top h = h - 1
+
+abbrev pub after_low : LowByte → ℕ → ℕ
+after_low (lows.Constant k) h = h
+after_low (lows.Load x) h = h
+after_low (lows.LoadAt x) h = h
+after_low lows.LoadThere h = h
+after_low lows.Receive h = h
+after_low (lows.ReceiveFrom port) h = h
+after_low lows.High h = h
+after_low (lows.Operate o x) h = after_right x h
 
 -- how many values a routine has pushed after an instruction, of this number before it
 abbrev pub after : Instruction → ℕ → ℕ
@@ -22,6 +45,7 @@ after (op.LocateAt x) h = h
 after (op.Load width x) h = h
 after (op.LoadAt width x) h = h
 after (op.LoadThere width) h = h
+after (op.Low low high) h = after_low low h
 after op.Push h = suc h
 after (op.Pick n) h = h
 after (op.Drop n) h = h - n
@@ -32,6 +56,7 @@ after (op.BinaryPlain o width read x) h = h
 after (op.Store width x) h = h
 after (op.StoreAt width x) h = h - 1
 after (op.StoreThere width) h = h - 1
+after (op.StoreTop width x) h = h - 1
 after (op.Send width) h = h - 1
 after (op.SendTo width port) h = h
 after (op.Receive width) h = h
@@ -40,6 +65,7 @@ after (op.Ahead n) h = h
 after (op.AheadUnless t n) h = h - popped t
 after (op.Back n) h = h
 after (op.BackUnless t n) h = h - popped t
+after (op.Next width x s n) h = h
 after (op.Switch n) h = h
 after (op.Case n) h = h
 after (op.Invoke q) h = h
@@ -65,6 +91,7 @@ target (op.LocateAt x) p = None
 target (op.Load width x) p = None
 target (op.LoadAt width x) p = None
 target (op.LoadThere width) p = None
+target (op.Low low high) p = None
 target op.Push p = None
 target (op.Pick n) p = None
 target (op.Drop n) p = None
@@ -75,6 +102,7 @@ target (op.BinaryPlain o width read x) p = None
 target (op.Store width x) p = None
 target (op.StoreAt width x) p = None
 target (op.StoreThere width) p = None
+target (op.StoreTop width x) p = None
 target (op.Send width) p = None
 target (op.SendTo width port) p = None
 target (op.Receive width) p = None
@@ -83,6 +111,7 @@ target (op.Ahead n) p = Some (p + n)
 target (op.AheadUnless t n) p = Some (p + n)
 target (op.Back n) p = Some (p - n)
 target (op.BackUnless t n) p = Some (p - n)
+target (op.Next width x s n) p = Some (p - n)
 target (op.Switch n) p = Some (p + n)
 target (op.Case n) p = Some (p + n)
 target (op.Invoke q) p = None
@@ -109,6 +138,7 @@ called (op.LocateAt x) = None
 called (op.Load width x) = None
 called (op.LoadAt width x) = None
 called (op.LoadThere width) = None
+called (op.Low low high) = None
 called op.Push = None
 called (op.Pick n) = None
 called (op.Drop n) = None
@@ -119,6 +149,7 @@ called (op.BinaryPlain o width read x) = None
 called (op.Store width x) = None
 called (op.StoreAt width x) = None
 called (op.StoreThere width) = None
+called (op.StoreTop width x) = None
 called (op.Send width) = None
 called (op.SendTo width port) = None
 called (op.Receive width) = None
@@ -127,6 +158,7 @@ called (op.Ahead n) = None
 called (op.AheadUnless t n) = None
 called (op.Back n) = None
 called (op.BackUnless t n) = None
+called (op.Next width x s n) = None
 called (op.Switch n) = None
 called (op.Case n) = None
 called (op.Invoke q) = Some q

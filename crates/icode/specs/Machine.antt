@@ -1,8 +1,10 @@
 -- What intermediate code means: a machine with an accumulator and a stack of words, as the 8086 has them. An instruction makes at
 -- most one access. What no compiled program does (an access outside the objects and the screen, a quotient that there is not, a word of
 -- the wrong kind on top) is Bad.
-use Rattle.std.specs.Prelude.{ℕ, suc, ◌+◌, ◌-◌, ◌%◌, Bool, not, nat_eq, nat_lt, nat_le, if◌then◌else◌, List, [], ◌∷◌, drop, length, Option, Some, None, slice_get, slice_index}
+use Rattle.std.specs.Prelude.{ℕ, suc, ◌+◌, ◌-◌, ◌*◌, ◌/◌, ◌%◌, Bool, not, nat_eq, nat_lt, nat_le, if◌then◌else◌, List, [], ◌∷◌, drop, length, Option, Some, None, slice_get, slice_index}
+use Rattle.std.specs.Int.Bits.{bit_and, bit_or, bit_xor}
 use Rattle.word86.specs.declared.width.Width.{Width}
+use Rattle.word86.specs.declared.width.Width.TheVariants as widths
 use Rattle.word86.specs.declared.place.Place.{Place}
 use Rattle.word86.specs.declared.place.Place.TheVariants as place
 use Rattle.word86.specs.Access.{Access, Read, Write, Input, Output, Where}
@@ -19,6 +21,14 @@ use Rattle.icode.specs.declared.instruction.Relation.{Relation}
 use Rattle.icode.specs.declared.instruction.Relation.TheVariants as relation
 use Rattle.icode.specs.declared.instruction.Test.{Test}
 use Rattle.icode.specs.declared.instruction.Test.TheVariants as test
+use Rattle.icode.specs.declared.instruction.LowByte.{LowByte}
+use Rattle.icode.specs.declared.instruction.LowByte.TheVariants as lows
+use Rattle.icode.specs.declared.instruction.High.{High}
+use Rattle.icode.specs.declared.instruction.High.TheVariants as highs
+use Rattle.icode.specs.declared.instruction.Right.{Right}
+use Rattle.icode.specs.declared.instruction.Right.TheVariants as rights
+use Rattle.icode.specs.declared.instruction.Direct.{Direct}
+use Rattle.icode.specs.declared.instruction.Direct.TheVariants as directs
 use Rattle.icode.specs.declared.code.Routine.{Routine}
 use Rattle.icode.specs.declared.code.Routine.TheVariants.{Procedure, Nowhere}
 use Rattle.icode.specs.declared.code.Position.{Position}
@@ -43,6 +53,25 @@ stands relation.LessSigned x y = signed_less x y
 stands relation.LessEqualSigned x y = not (signed_less y x)
 stands relation.GreaterSigned x y = signed_less y x
 stands relation.GreaterEqualSigned x y = not (signed_less x y)
+
+-- ---- low bytes
+
+-- a word's high byte, or 0, and a low byte
+abbrev pub settled : High → (word byte : ℕ) → ℕ
+settled highs.Kept a v = a / 256 * 256 + v
+settled highs.Cleared a v = v
+
+-- operators on bytes
+abbrev pub direct_value : Direct → ℕ → ℕ → ℕ
+direct_value directs.Add x y = (x + y) % 256
+direct_value directs.Subtract x y = (x + 256 - y) % 256
+direct_value directs.And x y = bit_and x y
+direct_value directs.Or x y = bit_or x y
+direct_value directs.ExclusiveOr x y = bit_xor x y
+
+-- an operator on a word's low byte and a byte
+abbrev pub of_bytes : Direct → High → (word byte : ℕ) → ℕ
+of_bytes o high x y = settled high x (direct_value o (x % 256) y)
 
 -- ---- what needs a value, a word of the right kind, or a place
 
@@ -83,6 +112,15 @@ abbrev pub stored : Width → Option Where → ℕ → Context → Action Access
 stored width (Some x) v c = Touch (Write width x (low width v)) (λ _. c)
 stored width None v c = Bad 0 0
 
+-- a word whose low bits of this width are those of a value
+abbrev pub with_low : Width → (word value : ℕ) → ℕ
+with_low widths.Byte a v = a / 256 * 256 + v % 256
+with_low widths.Word a v = v % 65536
+
+-- a step is added, and the sum written; back to q unless it is below the step, as it is where it left the range of the width
+abbrev pub stepped : Width → Option Where → (step : ℕ) → Routine → (p q accumulator : ℕ) → List Word → Action Access Context
+stepped width x s r p q a ws = stored width x (a + s) (At r (if nat_lt (low width (a + s)) s then p else q) (with_low width a (a + s)) ws)
+
 abbrev pub left : Option Position → ℕ → List Word → Action Access Context
 left (Some p) a ws = Silent (At p.routine p.index a ws)
 left None a ws = Bad 0 0
@@ -103,6 +141,7 @@ case_of (op.LocateAt x) = None
 case_of (op.Load width x) = None
 case_of (op.LoadAt width x) = None
 case_of (op.LoadThere width) = None
+case_of (op.Low low high) = None
 case_of op.Push = None
 case_of (op.Pick n) = None
 case_of (op.Drop n) = None
@@ -113,6 +152,7 @@ case_of (op.BinaryPlain o width read x) = None
 case_of (op.Store width x) = None
 case_of (op.StoreAt width x) = None
 case_of (op.StoreThere width) = None
+case_of (op.StoreTop width x) = None
 case_of (op.Send width) = None
 case_of (op.SendTo width port) = None
 case_of (op.Receive width) = None
@@ -121,6 +161,7 @@ case_of (op.Ahead n) = None
 case_of (op.AheadUnless t n) = None
 case_of (op.Back n) = None
 case_of (op.BackUnless t n) = None
+case_of (op.Next width x s n) = None
 case_of (op.Switch n) = None
 case_of (op.Case n) = Some n
 case_of (op.Invoke q) = None
@@ -134,10 +175,13 @@ abbrev pub at_case : Option ℕ → Routine → (behind accumulator : ℕ) → L
 at_case (Some n) r p a ws = Silent (At r (p + n) a ws)
 at_case None r p a ws = Bad 0 0
 
+abbrev pub case_in : Option Instruction → Option ℕ
+case_in (Some i) = case_of i
+case_in None = None
+
 -- on at a case, if there is one
 abbrev pub switched : Option Instruction → Routine → (behind accumulator : ℕ) → List Word → Action Access Context
-switched (Some i) r p a ws = at_case (case_of i) r p a ws
-switched None r p a ws = Bad 0 0
+switched i r p a ws = at_case (case_in i) r p a ws
 
 -- the objects' offsets and sizes
 module _ (offsets sizes : List ℕ) where
@@ -151,12 +195,40 @@ module _ (offsets sizes : List ℕ) where
   found width (place.Ram k i) a = held 0 offsets sizes a (bytes width)
   found width (place.Screen page i) a = if covers (page_begins page) page_size a (bytes width) then Some (access.Screen page (a - page_begins page)) else None
 
+  -- what the byte read this many bytes after a place leads to
+  abbrev pub byte_at : Place → (more : ℕ) → (ℕ → Context) → Action Access Context
+  byte_at x more k = loaded widths.Byte (found widths.Byte x (address x more)) k
+
+  -- an operator on low bytes
+  abbrev pub by_right : Direct → Right → High → Routine → (next accumulator : ℕ) → List Word → Action Access Context
+  by_right o (rights.Constant k) high r p a ws = Silent (At r p (of_bytes o high a (k % 256)) ws)
+  by_right o (rights.Plain x) high r p a ws = byte_at x 0 (λ v. At r p (of_bytes o high a v) ws)
+  by_right o rights.Top high r p a ws = with_value (value_on_top ws) (λ v. Silent (At r p (of_bytes o high v (a % 256)) (drop 1 ws)))
+
+  -- the low byte of the accumulator gets something
+  abbrev pub run_low : LowByte → High → Routine → (next accumulator : ℕ) → List Word → Action Access Context
+  run_low (lows.Constant k) high r p a ws = Silent (At r p (settled high a (k % 256)) ws)
+  run_low (lows.Load x) high r p a ws = byte_at x 0 (λ v. At r p (settled high a v) ws)
+  run_low (lows.LoadAt x) high r p a ws = byte_at x a (λ v. At r p (settled high a v) ws)
+  run_low lows.LoadThere high r p a ws = loaded widths.Byte (held 0 offsets sizes a 1) (λ v. At r p (settled high a v) ws)
+  run_low lows.Receive high r p a ws = Touch (Input widths.Byte a) (λ v. At r p (settled high a v) ws)
+  run_low (lows.ReceiveFrom port) high r p a ws = Touch (Input widths.Byte port) (λ v. At r p (settled high a v) ws)
+  run_low lows.High high r p a ws = Silent (At r p (settled high a (a / 256)) ws)
+  run_low (lows.Operate o x) high r p a ws = by_right o x high r p a ws
+
+  -- a jump to q unless low bytes stand in a relation, else on at p
+  abbrev pub jumped_low : Relation → Right → Routine → (p q accumulator : ℕ) → List Word → Action Access Context
+  jumped_low o (rights.Constant k) r p q a ws = Silent (At r (if stands o (a % 256) (k % 256) then p else q) a ws)
+  jumped_low o (rights.Plain x) r p q a ws = byte_at x 0 (λ v. At r (if stands o (a % 256) v then p else q) a ws)
+  jumped_low o rights.Top r p q a ws = with_value (value_on_top ws) (λ v. Silent (At r (if stands o (v % 256) (a % 256) then p else q) a (drop 1 ws)))
+
   -- a jump to q unless the test holds, else on at p
   abbrev pub jumped : Test → Routine → (p q accumulator : ℕ) → List Word → Action Access Context
   jumped test.Odd r p q a ws = Silent (At r (if is_odd a then p else q) a ws)
   jumped (test.Constant o k) r p q a ws = Silent (At r (if stands o a k then p else q) a ws)
   jumped (test.Plain o read x) r p q a ws = loaded read (found read x (address x 0)) (λ v. At r (if stands o a v then p else q) a ws)
   jumped (test.Top o) r p q a ws = with_value (value_on_top ws) (λ v. Silent (At r (if stands o v a then p else q) a (drop 1 ws)))
+  jumped (test.Low o x) r p q a ws = jumped_low o x r p q a ws
 
   -- an instruction among those of its routine; the index of the instruction after it; the accumulator; the words
   module _ (all : List Instruction) where
@@ -167,6 +239,7 @@ module _ (offsets sizes : List ℕ) where
     run (op.Load width x) r p a ws = loaded width (found width x (address x 0)) (λ v. At r p v ws)
     run (op.LoadAt width x) r p a ws = loaded width (found width x (address x a)) (λ v. At r p v ws)
     run (op.LoadThere width) r p a ws = loaded width (held 0 offsets sizes a (bytes width)) (λ v. At r p v ws)
+    run (op.Low low high) r p a ws = run_low low high r p a ws
     run op.Push r p a ws = Silent (At r p a (Value a ∷ ws))
     run (op.Pick n) r p a ws = with_value (value_in (slice_get ws n)) (λ v. Silent (At r p v ws))
     run (op.Drop n) r p a ws = dropped n r p a ws
@@ -177,6 +250,7 @@ module _ (offsets sizes : List ℕ) where
     run (op.Store width x) r p a ws = stored width (found width x (address x 0)) a (At r p a ws)
     run (op.StoreAt width x) r p a ws = with_value (value_on_top ws) (λ v. stored width (found width x (address x a)) v (At r p v (drop 1 ws)))
     run (op.StoreThere width) r p a ws = with_value (value_on_top ws) (λ v. stored width (held 0 offsets sizes a (bytes width)) v (At r p v (drop 1 ws)))
+    run (op.StoreTop width x) r p a ws = with_value (value_on_top ws) (λ v. stored width (found width x (address x 0)) v (At r p a (drop 1 ws)))
     run (op.Send width) r p a ws = with_value (value_on_top ws) (λ v. Touch (Output width a (low width v)) (λ _. At r p v (drop 1 ws)))
     run (op.SendTo width port) r p a ws = Touch (Output width port (low width a)) (λ _. At r p a ws)
     run (op.Receive width) r p a ws = Touch (Input width a) (λ v. At r p v ws)
@@ -185,6 +259,7 @@ module _ (offsets sizes : List ℕ) where
     run (op.AheadUnless t n) r p a ws = jumped t r p (p + n) a ws
     run (op.Back n) r p a ws = Silent (At r (p - n) a ws)
     run (op.BackUnless t n) r p a ws = jumped t r p (p - n) a ws
+    run (op.Next width x s n) r p a ws = stepped width (found width x (address x 0)) s r p (p - n) a ws
     run (op.Switch n) r p a ws = if nat_lt a n then switched (slice_get all (p + a)) r (p + suc a) a ws else Silent (At r (p + n) a ws)
     run (op.Case n) r p a ws = Bad 0 0
     run (op.Invoke q) r p a ws = Silent (At (Procedure q) 0 a (Return (record { routine = r; index = p }) ∷ ws))

@@ -7,12 +7,13 @@ use Rattle.icode.specs.declared.instruction.Test.TheVariants as test
 use Rattle.icode.specs.Heights.{target}
 use Rattle.icode.specs.Machine.{case_of}
 
--- the constant in an instruction, or 0
+-- the constant that an instruction takes whole, or 0
 abbrev pub asked_constant : Test → ℕ
 asked_constant test.Odd = 0
 asked_constant (test.Constant o k) = k
 asked_constant (test.Plain o read x) = 0
 asked_constant (test.Top o) = 0
+asked_constant (test.Low o x) = 0
 
 abbrev pub constant_in : Instruction → ℕ
 constant_in (op.Constant k) = k
@@ -21,6 +22,7 @@ constant_in (op.LocateAt x) = 0
 constant_in (op.Load width x) = 0
 constant_in (op.LoadAt width x) = 0
 constant_in (op.LoadThere width) = 0
+constant_in (op.Low low high) = 0
 constant_in op.Push = 0
 constant_in (op.Pick n) = 0
 constant_in (op.Drop n) = 0
@@ -31,6 +33,7 @@ constant_in (op.BinaryPlain o width read x) = 0
 constant_in (op.Store width x) = 0
 constant_in (op.StoreAt width x) = 0
 constant_in (op.StoreThere width) = 0
+constant_in (op.StoreTop width x) = 0
 constant_in (op.Send width) = 0
 constant_in (op.SendTo width port) = 0
 constant_in (op.Receive width) = 0
@@ -39,6 +42,7 @@ constant_in (op.Ahead n) = 0
 constant_in (op.AheadUnless t n) = asked_constant t
 constant_in (op.Back n) = 0
 constant_in (op.BackUnless t n) = asked_constant t
+constant_in (op.Next width x s n) = s
 constant_in (op.Switch n) = 0
 constant_in (op.Case n) = 0
 constant_in (op.Invoke q) = 0
@@ -56,6 +60,7 @@ cases_of (op.LocateAt x) = 0
 cases_of (op.Load width x) = 0
 cases_of (op.LoadAt width x) = 0
 cases_of (op.LoadThere width) = 0
+cases_of (op.Low low high) = 0
 cases_of op.Push = 0
 cases_of (op.Pick n) = 0
 cases_of (op.Drop n) = 0
@@ -66,6 +71,7 @@ cases_of (op.BinaryPlain o width read x) = 0
 cases_of (op.Store width x) = 0
 cases_of (op.StoreAt width x) = 0
 cases_of (op.StoreThere width) = 0
+cases_of (op.StoreTop width x) = 0
 cases_of (op.Send width) = 0
 cases_of (op.SendTo width port) = 0
 cases_of (op.Receive width) = 0
@@ -74,6 +80,7 @@ cases_of (op.Ahead n) = 0
 cases_of (op.AheadUnless t n) = 0
 cases_of (op.Back n) = 0
 cases_of (op.BackUnless t n) = 0
+cases_of (op.Next width x s n) = 0
 cases_of (op.Switch n) = n
 cases_of (op.Case n) = 0
 cases_of (op.Invoke q) = 0

@@ -9,6 +9,10 @@ use Rattle.icode.specs.declared.instruction.Instruction.{Instruction}
 use Rattle.icode.specs.declared.instruction.Instruction.TheVariants as op
 use Rattle.icode.specs.declared.instruction.Test.{Test}
 use Rattle.icode.specs.declared.instruction.Test.TheVariants as test
+use Rattle.icode.specs.declared.instruction.LowByte.{LowByte}
+use Rattle.icode.specs.declared.instruction.LowByte.TheVariants as lows
+use Rattle.icode.specs.declared.instruction.Right.{Right}
+use Rattle.icode.specs.declared.instruction.Right.TheVariants as rights
 use Rattle.icode.specs.declared.registers.Registers.{Registers}
 
 abbrev pub none : Registers
@@ -96,12 +100,34 @@ of_read widths.Word o = of_direct o
 abbrev pub of_port : ℕ → Registers
 of_port port = if nat_le 256 port then just_high else none
 
+-- the left operand comes from the stack, and the right one goes to its register
+abbrev pub of_right : Right → Registers
+of_right (rights.Constant k) = just_accumulator
+of_right (rights.Plain x) = just_accumulator
+of_right rights.Top = record none { accumulator = true; right = true }
+
+abbrev pub of_low : LowByte → Registers
+of_low (lows.Constant k) = just_accumulator
+of_low (lows.Load x) = just_accumulator
+of_low (lows.LoadAt x) = record none { accumulator = true; address = true }
+of_low lows.LoadThere = record none { accumulator = true; address = true }
+of_low lows.Receive = record none { accumulator = true; high = true }
+of_low (lows.ReceiveFrom port) = joined just_accumulator (of_port port)
+of_low lows.High = just_accumulator
+of_low (lows.Operate o x) = of_right x
+
+abbrev pub of_low_test : Right → Registers
+of_low_test (rights.Constant k) = none
+of_low_test (rights.Plain x) = none
+of_low_test rights.Top = just_right
+
 abbrev pub of_test : Test → Registers
 of_test test.Odd = none
 of_test (test.Constant o k) = none
 of_test (test.Plain o widths.Byte x) = just_right
 of_test (test.Plain o widths.Word x) = none
 of_test (test.Top o) = just_right
+of_test (test.Low o x) = of_low_test x
 
 abbrev pub of_drop : ℕ → Registers
 of_drop n = if nat_eq n 1 then just_right else none
@@ -113,6 +139,7 @@ changes (op.LocateAt x) = just_accumulator
 changes (op.Load width x) = just_accumulator
 changes (op.LoadAt width x) = record none { accumulator = true; address = true }
 changes (op.LoadThere width) = record none { accumulator = true; address = true }
+changes (op.Low low high) = of_low low
 changes op.Push = none
 changes (op.Pick n) = record none { accumulator = true; frame = true }
 changes (op.Drop n) = of_drop n
@@ -123,6 +150,7 @@ changes (op.BinaryPlain o width read x) = of_read read o
 changes (op.Store width x) = none
 changes (op.StoreAt width x) = record none { accumulator = true; address = true }
 changes (op.StoreThere width) = record none { accumulator = true; address = true }
+changes (op.StoreTop width x) = just_right
 changes (op.Send width) = record none { accumulator = true; high = true }
 changes (op.SendTo width port) = of_port port
 changes (op.Receive width) = record none { accumulator = true; high = true }
@@ -131,6 +159,7 @@ changes (op.Ahead n) = none
 changes (op.AheadUnless t n) = of_test t
 changes (op.Back n) = none
 changes (op.BackUnless t n) = of_test t
+changes (op.Next width x s n) = just_accumulator
 changes (op.Switch n) = just_address
 changes (op.Case n) = none
 changes (op.Invoke q) = none

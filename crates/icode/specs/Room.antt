@@ -8,6 +8,12 @@ use Rattle.icode.specs.declared.instruction.Instruction.{Instruction}
 use Rattle.icode.specs.declared.instruction.Instruction.TheVariants as op
 use Rattle.icode.specs.declared.instruction.Test.{Test}
 use Rattle.icode.specs.declared.instruction.Test.TheVariants as test
+use Rattle.icode.specs.declared.instruction.LowByte.{LowByte}
+use Rattle.icode.specs.declared.instruction.LowByte.TheVariants as lows
+use Rattle.icode.specs.declared.instruction.High.{High}
+use Rattle.icode.specs.declared.instruction.High.TheVariants as highs
+use Rattle.icode.specs.declared.instruction.Right.{Right}
+use Rattle.icode.specs.declared.instruction.Right.TheVariants as rights
 use Rattle.icode.specs.Registers.{is_direct}
 
 -- two sign bits are turned, four bytes more than the longest of the others
@@ -44,6 +50,26 @@ abbrev pub room_of_read : Width → BinaryOperation → ℕ
 room_of_read widths.Byte o = 18 + room_of_signs o
 room_of_read widths.Word o = if is_direct o then 7 else 16 + room_of_signs o
 
+-- bytes that stay or become 0
+abbrev pub room_of_high : High → ℕ
+room_of_high highs.Kept = 0
+room_of_high highs.Cleared = 2
+
+abbrev pub room_of_right : Right → ℕ
+room_of_right (rights.Constant k) = 3
+room_of_right (rights.Plain x) = 5
+room_of_right rights.Top = 5
+
+abbrev pub room_of_low : LowByte → ℕ
+room_of_low (lows.Constant k) = 3
+room_of_low (lows.Load x) = 5
+room_of_low (lows.LoadAt x) = 7
+room_of_low lows.LoadThere = 6
+room_of_low lows.Receive = 3
+room_of_low (lows.ReceiveFrom port) = 4
+room_of_low lows.High = 2
+room_of_low (lows.Operate o x) = room_of_right x
+
 -- a jump that is too far for a short one
 abbrev pub room_of_test : Test → ℕ
 room_of_test test.Odd = 7
@@ -51,6 +77,7 @@ room_of_test (test.Constant o k) = 8
 room_of_test (test.Plain o widths.Byte x) = 14
 room_of_test (test.Plain o widths.Word x) = 10
 room_of_test (test.Top o) = 8
+room_of_test (test.Low o x) = 5 + room_of_right x
 
 abbrev pub room_of : Instruction → ℕ
 room_of (op.Constant k) = 3
@@ -59,6 +86,7 @@ room_of (op.LocateAt x) = 3
 room_of (op.Load width x) = 6
 room_of (op.LoadAt width x) = 9
 room_of (op.LoadThere width) = 8
+room_of (op.Low low high) = room_of_low low + room_of_high high
 room_of op.Push = 1
 room_of (op.Pick n) = 6
 room_of (op.Drop n) = 4
@@ -69,6 +97,7 @@ room_of (op.BinaryPlain o width read x) = room_of_read read o
 room_of (op.Store width x) = 4
 room_of (op.StoreAt width x) = 8
 room_of (op.StoreThere width) = 7
+room_of (op.StoreTop width x) = 6
 room_of (op.Send width) = 4
 room_of (op.SendTo width port) = 4
 room_of (op.Receive width) = 5
@@ -77,6 +106,7 @@ room_of (op.Ahead n) = 3
 room_of (op.AheadUnless t n) = room_of_test t
 room_of (op.Back n) = 3
 room_of (op.BackUnless t n) = room_of_test t
+room_of (op.Next width x s n) = 12
 room_of (op.Switch n) = 17
 room_of (op.Case n) = 2
 room_of (op.Invoke q) = 3

@@ -18,6 +18,54 @@ pub enum Relation {
     GreaterEqualSigned,
 }
 
+/// An operator that takes its right operand where it lies.
+#[derive(Debug, Clone, Copy, PartialEq, Eq)]
+pub enum Direct {
+    Add,
+    Subtract,
+    And,
+    Or,
+    ExclusiveOr,
+}
+
+/// The right operand of what is done with low bytes.
+#[derive(Debug, Clone, Copy, PartialEq, Eq)]
+pub enum Right {
+    /// The low byte of a number.
+    Constant(u16),
+    /// The byte at a place.
+    Plain(Place),
+    /// The low byte of the accumulator; the left operand is that of the value on top, which goes.
+    Top,
+}
+
+/// What the low byte of the accumulator gets.
+#[derive(Debug, Clone, Copy, PartialEq, Eq)]
+pub enum LowByte {
+    /// That of a number.
+    Constant(u16),
+    /// What is read at a place; as many bytes after a place as the accumulator says; at the address in it.
+    Load(Place),
+    LoadAt(Place),
+    LoadThere,
+    /// What is read from the port in the accumulator; from a port.
+    Receive,
+    ReceiveFrom(u16),
+    /// The accumulator's high byte.
+    High,
+    /// The value of an operator on low bytes.
+    Operate(Direct, Right),
+}
+
+/// What becomes of the high byte.
+#[derive(Debug, Clone, Copy, PartialEq, Eq)]
+pub enum High {
+    /// It stays: that of the accumulator, or of the value that was on top.
+    Kept,
+    /// It becomes 0.
+    Cleared,
+}
+
 /// What a conditional jump asks.
 #[derive(Debug, Clone, Copy, PartialEq, Eq)]
 pub enum Test {
@@ -29,10 +77,12 @@ pub enum Test {
     Plain(Relation, Width, Place),
     /// Whether the value on top, which goes, stands in a relation to the accumulator.
     Top(Relation),
+    /// Whether low bytes stand in a relation.
+    Low(Relation, Right),
 }
 
-/// An instruction. Values of 8 bits stand in the accumulator and on the stack with a high byte of 0. An address is an offset in
-/// the segment of the RAM objects or, for a `Place` on the screen, in the screen's.
+/// An instruction. A value of 8 bits stands in the accumulator and on the stack with a high byte of 0, unless a `Low` has kept the
+/// one that was there. An address is an offset in the segment of the RAM objects or, for a `Place` on the screen, in the screen's.
 #[derive(Debug, Clone, Copy, PartialEq, Eq)]
 pub enum Instruction {
     /// The accumulator gets a value.
@@ -45,6 +95,8 @@ pub enum Instruction {
     Load(Width, Place),
     LoadAt(Width, Place),
     LoadThere(Width),
+    /// The low byte of the accumulator gets something, and the high byte stays or becomes 0.
+    Low(LowByte, High),
     /// The accumulator is pushed.
     Push,
     /// The accumulator gets the value that this number of words lie on, which stays.
@@ -64,6 +116,8 @@ pub enum Instruction {
     /// the accumulator gets the value.
     StoreAt(Width, Place),
     StoreThere(Width),
+    /// The value on top, which goes, is written at a place; the accumulator stays as it is.
+    StoreTop(Width, Place),
     /// The value on top, which goes, is written to the port in the accumulator, which gets the value; the accumulator, which stays
     /// as it is, to a port.
     Send(Width),
@@ -77,6 +131,9 @@ pub enum Instruction {
     /// Back over this number of them, this one among them; there unless a test holds.
     Back(usize),
     BackUnless(Test, usize),
+    /// The end of a round: a step is added to the accumulator, and the low bits of the sum are written at a place and take the place of
+    /// the accumulator's. Back as above unless they are below the step: the sum then left the range of this width.
+    Next(Width, Place, u16, usize),
     /// On by one of the cases that follow, of this number, which the accumulator counts from 0, or past them all.
     Switch(usize),
     /// A case of a `Switch`: on from it over this number of instructions. It is no instruction of its own.

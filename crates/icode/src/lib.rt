@@ -8,7 +8,7 @@ mod ram_objects;
 mod registers;
 
 pub use code::{Code, Position, Procedure, Routine, Word};
-pub use instruction::{Instruction, Relation, Test};
+pub use instruction::{Direct, High, Instruction, LowByte, Relation, Right, Test};
 pub use machine::{Machine, Step, Stop};
 pub use ram_objects::RamObjects;
 pub use registers::{Registers, is_direct};

@@ -1,7 +1,8 @@
 //! A context of the code: where it stands, its accumulator and its stack.
 
-ghost use Rattle.std.specs.Prelude.{◌≡◌, ℕ, suc, ◌+◌, ◌∷◌, [], List, false, slice_get, drop, nat_lt, if◌then◌else◌};
+ghost use Rattle.std.specs.Prelude.{◌≡◌, ℕ, suc, ◌+◌, ◌%◌, ◌∷◌, [], List, false, slice_get, drop, nat_lt, if◌then◌else◌};
 ghost use Rattle.std.specs.Option.{option_map};
+ghost use Rattle.word86.specs.declared.width.Width.TheVariants as widths;
 ghost use Rattle.word86.specs.Access.{Output, Input};
 ghost use Rattle.word86.specs.Action.{Silent, Touch};
 ghost use Rattle.word86.specs.Arithmetic.{low};
@@ -12,11 +13,11 @@ ghost use Rattle.icode.specs.declared.code.Routine.TheVariants as routine;
 ghost use Rattle.icode.specs.declared.code.Word.TheVariants.{Return};
 ghost use Rattle.icode.specs.declared.machine.Step.TheVariants as step;
 ghost use Rattle.icode.specs.declared.machine.Stop.TheVariants as stop;
-ghost use Rattle.icode.specs.Machine.{Context as Target, At, run, stands, jumped, case_of, switched, dropped, computed, value_in, value_on_top, return_on_top, with_value, operated, loaded, stored, left};
+ghost use Rattle.icode.specs.Machine.{Context as Target, At, run, stands, jumped, case_of, switched, dropped, computed, value_in, value_on_top, return_on_top, with_value, operated, loaded, stored, stepped, with_low, left, run_low, by_right, jumped_low, settled, direct_value, case_in};
 ghost use Rattle.icode.specs.Shown.{shown, words_of, action_of, access_in, Does};
 
 use crate::code::{Code, Position, Routine, Word};
-use crate::instruction::{Instruction, Relation, Test};
+use crate::instruction::{Direct, High, Instruction, LowByte, Relation, Right, Test};
 use crate::ram_objects::RamObjects;
 use std::alloc::Global;
 use word86::{Access, BinaryOperation, Place, Width, signed16};
@@ -87,7 +88,48 @@ fn read_by(ram_objects: RamObjects<'_>, test: Test) -> Option<Access>
 {
     match test {
         Test::Plain(_, width, place) => read(width, ram_objects.reached(width, place, 0)),
+        Test::Low(_, right) => right.read(ram_objects),
         Test::Odd | Test::Constant(_, _) | Test::Top(_) => None,
+    }
+}
+
+impl Right {
+    // The read that it makes.
+    fn read(self, ram_objects: RamObjects<'_>) -> Option<Access>
+        ensures tested { (relation : Relation) (routine : Routine) (next target accumulator : ℕ) (words : List Word) → option_map access_of result ≡ access_in (jumped_low ram_objects.entry.offsets.now ram_objects.entry.sizes.now relation self routine next target accumulator words) }
+        ensures applied { (operation : Direct) (high : High) (routine : Routine) (next accumulator : ℕ) (words : List Word) → option_map access_of result ≡ access_in (by_right ram_objects.entry.offsets.now ram_objects.entry.sizes.now operation self high routine next accumulator words) }
+    {
+        match self {
+            Right::Constant(_) | Right::Top => None,
+            Right::Plain(place) => read(Width::Byte, ram_objects.reached(Width::Byte, place, 0)),
+        }
+    }
+}
+
+impl Direct {
+    // Its value on bytes.
+    fn value(self, left: u8, right: u8) -> u8
+        ensures { result ≡ direct_value self left right }
+    {
+        match self {
+            Direct::Add => left.wrapping_add(right),
+            Direct::Subtract => left.wrapping_sub(right),
+            Direct::And => left & right,
+            Direct::Or => left | right,
+            Direct::ExclusiveOr => left ^ right,
+        }
+    }
+}
+
+impl High {
+    // A value with this low byte.
+    fn settled(self, value: u16, low: u8) -> u16
+        ensures { result ≡ settled self value low }
+    {
+        match self {
+            High::Kept => value / 256 * 256 + u16::from(low),
+            High::Cleared => u16::from(low),
+        }
     }
 }
 
@@ -124,6 +166,7 @@ impl Instruction {
             | Instruction::Load(_, _)
             | Instruction::LoadAt(_, _)
             | Instruction::LoadThere(_)
+            | Instruction::Low(_, _)
             | Instruction::Push
             | Instruction::Pick(_)
             | Instruction::Drop(_)
@@ -134,6 +177,7 @@ impl Instruction {
             | Instruction::Store(_, _)
             | Instruction::StoreAt(_, _)
             | Instruction::StoreThere(_)
+            | Instruction::StoreTop(_, _)
             | Instruction::Send(_)
             | Instruction::SendTo(_, _)
             | Instruction::Receive(_)
@@ -142,6 +186,7 @@ impl Instruction {
             | Instruction::AheadUnless(_, _)
             | Instruction::Back(_)
             | Instruction::BackUnless(_, _)
+            | Instruction::Next(_, _, _, _)
             | Instruction::Switch(_)
             | Instruction::Invoke(_)
             | Instruction::Leave
@@ -150,6 +195,43 @@ impl Instruction {
             | Instruction::Halt
             | Instruction::Finish => None,
         }
+    }
+}
+
+// The sum of a word and a step.
+fn sum(word: u16, step: u16) -> u32
+    ensures { result ≡ word + step }
+{
+    u32::from(word) + u32::from(step)
+}
+
+// A word whose low bits of a width are those of a value.
+fn with_low(width: Width, word: u16, value: u32) -> u16
+    ensures { result ≡ with_low width word value }
+{
+    match width {
+        Width::Byte => word / 256 * 256 + (value % 0x100) as u16,
+        Width::Word => (value % 0x1_0000) as u16,
+    }
+}
+
+// The write of a sum where there may be no place.
+fn written_sum(width: Width, place: Option<Place>, value: u16, step: u16) -> Option<Access>
+    ensures { (routine : Routine) (next target : ℕ) (words : List Word) → option_map access_of result ≡ access_in (stepped width (option_map where_of place) step routine next target value words) }
+{
+    match place {
+        None => None,
+        Some(place) => Some(Access::Write(width, place, width.low(sum(value, step)))),
+    }
+}
+
+// How far the case at an index leads on, if there is one.
+fn case_at(all: &[Instruction], index: usize) -> Option<usize>
+    ensures { result ≡ case_in (slice_get all.now index) }
+{
+    match all.get(index) {
+        None => None,
+        Some(instruction) => instruction.case(),
     }
 }
 
@@ -317,6 +399,30 @@ impl Context {
         }
     }
 
+    // The value on top is written where there may be no place; the accumulator stays.
+    fn store_below(
+        &mut self,
+        next: usize,
+        width: Width,
+        place: Option<Place>,
+        answer: u16,
+    ) -> Result<Step, Stop>
+        ensures { Does (with_value (value_on_top (words_of self.old)) (λ v. stored width (option_map where_of place) v (At self.old.position.routine next self.old.accumulator (drop 1 (words_of self.old))))) answer self.old self.new result }
+    {
+        let Some(value) = self.value_on_top() else {
+            return Err(Stop::Bad);
+        };
+        match place {
+            None => Err(Stop::Bad),
+            Some(place) => {
+                let accumulator = self.accumulator;
+                self.remove(1);
+                let access = Access::Write(width, place, width.low(u32::from(value)));
+                Ok(self.touch(next, accumulator, access))
+            }
+        }
+    }
+
     // The value on top is written to the port in the accumulator.
     fn send(&mut self, next: usize, width: Width, answer: u16) -> Result<Step, Stop>
         ensures { Does (with_value (value_on_top (words_of self.old)) (λ v. Touch (Output width self.old.accumulator (low width v)) (λ _. At self.old.position.routine next v (drop 1 (words_of self.old))))) answer self.old self.new result }
@@ -478,6 +584,190 @@ impl Context {
                 self.remove(1);
                 Ok(self.branch(relation.stands(left, value), next, target))
             }
+            Test::Low(relation, right) => {
+                self.jump_low(ram_objects, relation, right, next, target, answer)
+            }
+        }
+    }
+
+    // To the target unless low bytes stand in a relation.
+    fn jump_low(
+        &mut self,
+        ram_objects: RamObjects<'_>,
+        relation: Relation,
+        right: Right,
+        next: usize,
+        target: usize,
+        answer: u16,
+    ) -> Result<Step, Stop>
+        ensures { Does (jumped_low ram_objects.entry.offsets.now ram_objects.entry.sizes.now relation right self.old.position.routine next target self.old.accumulator (words_of self.old)) answer self.old self.new result }
+    {
+        let value = self.accumulator;
+        match right {
+            Right::Constant(right) => {
+                let holds = relation.stands(value % 256, right % 256);
+                Ok(self.branch(holds, next, target))
+            }
+            Right::Plain(place) => {
+                let Some(place) = ram_objects.reached(Width::Byte, place, 0) else {
+                    return Err(Stop::Bad);
+                };
+                self.branch(relation.stands(value % 256, answer % 256), next, target);
+                Ok(Step::Touch(Access::Read(Width::Byte, place)))
+            }
+            Right::Top => {
+                let Some(left) = self.value_on_top() else {
+                    return Err(Stop::Bad);
+                };
+                self.remove(1);
+                Ok(self.branch(relation.stands(left % 256, value % 256), next, target))
+            }
+        }
+    }
+
+    // The low byte gets what is read where there may be no place.
+    fn load_low(
+        &mut self,
+        next: usize,
+        high: High,
+        place: Option<Place>,
+        answer: u16,
+    ) -> Result<Step, Stop>
+        ensures { Does (loaded widths.Byte (option_map where_of place) (λ v. At self.old.position.routine next (settled high self.old.accumulator v) (words_of self.old))) answer self.old self.new result }
+    {
+        match place {
+            None => Err(Stop::Bad),
+            Some(place) => {
+                let value = high.settled(self.accumulator, (answer % 256) as u8);
+                Ok(self.touch(next, value, Access::Read(Width::Byte, place)))
+            }
+        }
+    }
+
+    // It gets what is read from a port.
+    fn receive_low(&mut self, next: usize, high: High, port: u16, answer: u16) -> Result<Step, Stop>
+        ensures { Does (Touch (Input widths.Byte port) (λ v. At self.old.position.routine next (settled high self.old.accumulator v) (words_of self.old))) answer self.old self.new result }
+    {
+        let value = high.settled(self.accumulator, (answer % 256) as u8);
+        Ok(self.touch(next, value, Access::Input(Width::Byte, port)))
+    }
+
+    // It gets the value of operands.
+    fn apply_low(
+        &mut self,
+        ram_objects: RamObjects<'_>,
+        next: usize,
+        operation: Direct,
+        right: Right,
+        high: High,
+        answer: u16,
+    ) -> Result<Step, Stop>
+        ensures { Does (by_right ram_objects.entry.offsets.now ram_objects.entry.sizes.now operation right high self.old.position.routine next self.old.accumulator (words_of self.old)) answer self.old self.new result }
+    {
+        let value = self.accumulator;
+        match right {
+            Right::Constant(right) => {
+                let result = operation.value((value % 256) as u8, (right % 256) as u8);
+                Ok(self.go_on(next, high.settled(value, result)))
+            }
+            Right::Plain(place) => {
+                let Some(place) = ram_objects.reached(Width::Byte, place, 0) else {
+                    return Err(Stop::Bad);
+                };
+                let result = operation.value((value % 256) as u8, (answer % 256) as u8);
+                let access = Access::Read(Width::Byte, place);
+                Ok(self.touch(next, high.settled(value, result), access))
+            }
+            Right::Top => {
+                let Some(left) = self.value_on_top() else {
+                    return Err(Stop::Bad);
+                };
+                self.remove(1);
+                let result = operation.value((left % 256) as u8, (value % 256) as u8);
+                Ok(self.go_on(next, high.settled(left, result)))
+            }
+        }
+    }
+
+    // Those on the low byte.
+    fn make_low(
+        &mut self,
+        ram_objects: RamObjects<'_>,
+        low: LowByte,
+        high: High,
+        next: usize,
+        answer: u16,
+    ) -> Result<Step, Stop>
+        ensures { Does (run_low ram_objects.entry.offsets.now ram_objects.entry.sizes.now low high self.old.position.routine next self.old.accumulator (words_of self.old)) answer self.old self.new result }
+    {
+        let value = self.accumulator;
+        match low {
+            LowByte::Constant(constant) => {
+                Ok(self.go_on(next, high.settled(value, (constant % 256) as u8)))
+            }
+            LowByte::Load(place) => {
+                self.load_low(
+                    next,
+                    high,
+                    ram_objects.reached(Width::Byte, place, 0),
+                    answer,
+                )
+            }
+            LowByte::LoadAt(place) => {
+                let found = ram_objects.reached(Width::Byte, place, value);
+                self.load_low(next, high, found, answer)
+            }
+            LowByte::LoadThere => {
+                self.load_low(next, high, ram_objects.held(Width::Byte, value), answer)
+            }
+            LowByte::Receive => self.receive_low(next, high, value, answer),
+            LowByte::ReceiveFrom(port) => self.receive_low(next, high, port, answer),
+            LowByte::High => Ok(self.go_on(next, high.settled(value, (value / 256) as u8))),
+            LowByte::Operate(operation, right) => {
+                self.apply_low(ram_objects, next, operation, right, high, answer)
+            }
+        }
+    }
+
+    // The access that is made for a low byte.
+    fn access_low(&self, ram_objects: RamObjects<'_>, low: LowByte) -> Option<Access>
+        ensures { (high : High) (next : ℕ) → option_map access_of result ≡ access_in (run_low ram_objects.entry.offsets.now ram_objects.entry.sizes.now low high self.now.position.routine next self.now.accumulator (words_of self.now)) }
+    {
+        let value = self.accumulator;
+        match low {
+            LowByte::Load(place) => read(Width::Byte, ram_objects.reached(Width::Byte, place, 0)),
+            LowByte::LoadAt(place) => {
+                read(Width::Byte, ram_objects.reached(Width::Byte, place, value))
+            }
+            LowByte::LoadThere => read(Width::Byte, ram_objects.held(Width::Byte, value)),
+            LowByte::Receive => Some(Access::Input(Width::Byte, value)),
+            LowByte::ReceiveFrom(port) => Some(Access::Input(Width::Byte, port)),
+            LowByte::Operate(_, right) => right.read(ram_objects),
+            LowByte::Constant(_) | LowByte::High => None,
+        }
+    }
+
+    // A step is added, and the sum written where there may be no place; to the target unless it is below the step.
+    fn count(
+        &mut self,
+        width: Width,
+        place: Option<Place>,
+        step: u16,
+        next: usize,
+        target: usize,
+        answer: u16,
+    ) -> Result<Step, Stop>
+        ensures { Does (stepped width (option_map where_of place) step self.old.position.routine next target self.old.accumulator (words_of self.old)) answer self.old self.new result }
+    {
+        match place {
+            None => Err(Stop::Bad),
+            Some(place) => {
+                let sum = sum(self.accumulator, step);
+                let low = width.low(sum);
+                let value = with_low(width, self.accumulator, sum);
+                let index = if low < step { next } else { target };
+                Ok(self.touch(index, value, Access::Write(width, place, low)))
+            }
         }
     }
 
@@ -498,12 +788,9 @@ impl Context {
         let Some(entry) = next.checked_add(value) else {
             return Err(Stop::Memory);
         };
-        match all.get(entry) {
+        match case_at(all, entry) {
             None => Err(Stop::Bad),
-            Some(instruction) => match instruction.case() {
-                None => Err(Stop::Bad),
-                Some(length) => self.ahead(entry + 1, length, answer),
-            },
+            Some(length) => self.ahead(entry + 1, length, answer),
         }
     }
 
@@ -532,6 +819,9 @@ impl Context {
                 width,
                 ram_objects.held(width, value),
             ),
+            Instruction::StoreTop(width, place) => {
+                self.written_top(width, ram_objects.reached(width, place, 0))
+            }
             Instruction::Send(width) => match self.value_on_top() {
                 None => None,
                 Some(top) => Some(Access::Output(width, value, width.low(u32::from(top)))),
@@ -542,8 +832,12 @@ impl Context {
             }
             Instruction::Receive(width) => Some(Access::Input(width, value)),
             Instruction::ReceiveFrom(width, port) => Some(Access::Input(width, port)),
+            Instruction::Low(low, _) => self.access_low(ram_objects, low),
             Instruction::AheadUnless(test, _) => read_by(ram_objects, test),
             Instruction::BackUnless(test, _) => read_by(ram_objects, test),
+            Instruction::Next(width, place, step, _) => {
+                written_sum(width, ram_objects.reached(width, place, 0), value, step)
+            }
             Instruction::Constant(_)
             | Instruction::Locate(_)
             | Instruction::LocateAt(_)
@@ -592,6 +886,7 @@ impl Context {
             Instruction::Constant(constant) => Ok(self.go_on(next, constant)),
             Instruction::Locate(place) => Ok(self.go_on(next, ram_objects.address(place, 0))),
             Instruction::LocateAt(place) => Ok(self.go_on(next, ram_objects.address(place, value))),
+            Instruction::Low(low, high) => self.make_low(ram_objects, low, high, next, answer),
             Instruction::Push => self.push(next, Word::Value(value), answer),
             Instruction::Pick(above) => self.operate(next, self.picked(above), answer),
             Instruction::Drop(count) => self.discard(next, count, answer),
@@ -646,6 +941,9 @@ impl Context {
             Instruction::StoreThere(width) => {
                 self.store_top(next, width, ram_objects.held(width, value), answer)
             }
+            Instruction::StoreTop(width, place) => {
+                self.store_below(next, width, ram_objects.reached(width, place, 0), answer)
+            }
             Instruction::Send(width) => self.send(next, width, answer),
             Instruction::SendTo(width, port) => self.send_to(next, width, port, answer),
             Instruction::Receive(width) => self.receive(next, width, value, answer),
@@ -660,6 +958,11 @@ impl Context {
             }
             Instruction::BackUnless(test, count) => {
                 self.jump(ram_objects, test, next, next.saturating_sub(count), answer)
+            }
+            Instruction::Next(width, place, step, count) => {
+                let found = ram_objects.reached(width, place, 0);
+                let target = next.saturating_sub(count);
+                self.count(width, found, step, next, target, answer)
             }
             Instruction::Switch(count) => self.choose(all, next, count, answer),
             Instruction::Invoke(procedure) => self.invoke(next, procedure, answer),

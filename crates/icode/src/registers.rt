@@ -1,9 +1,9 @@
 //! Which of the processor's registers an instruction changes: an interrupt procedure saves these.
 
 ghost use Rattle.std.specs.Prelude.{◌≡◌};
-ghost use Rattle.icode.specs.Registers.{none, just_accumulator, just_right, just_high, joined, of_operator, is_direct, of_direct, of_read, of_port, of_test, of_drop, changes};
+ghost use Rattle.icode.specs.Registers.{none, just_accumulator, just_right, just_high, joined, of_operator, is_direct, of_direct, of_read, of_port, of_test, of_drop, of_right, of_low, changes};
 
-use crate::instruction::{Instruction, Test};
+use crate::instruction::{Instruction, LowByte, Right, Test};
 use word86::{BinaryOperation, Width};
 
 /// The registers that instructions use, named by what they serve for, and whether each is among those that are meant.
@@ -173,7 +173,30 @@ fn of_test(test: Test) -> Registers
 {
     match test {
         Test::Plain(_, Width::Byte, _) | Test::Top(_) => RIGHT,
+        Test::Low(_, Right::Top) => RIGHT,
+        Test::Low(_, Right::Constant(_)) | Test::Low(_, Right::Plain(_)) => NONE,
         Test::Odd | Test::Constant(_, _) | Test::Plain(_, Width::Word, _) => NONE,
+    }
+}
+
+fn of_right(right: Right) -> Registers
+    ensures { result ≡ of_right right }
+{
+    match right {
+        Right::Top => ACCUMULATOR.joined(RIGHT),
+        Right::Constant(_) | Right::Plain(_) => ACCUMULATOR,
+    }
+}
+
+fn of_low(low: LowByte) -> Registers
+    ensures { result ≡ of_low low }
+{
+    match low {
+        LowByte::Constant(_) | LowByte::Load(_) | LowByte::High => ACCUMULATOR,
+        LowByte::LoadAt(_) | LowByte::LoadThere => ACCUMULATOR.joined(ADDRESS),
+        LowByte::Receive => ACCUMULATOR.joined(HIGH),
+        LowByte::ReceiveFrom(port) => ACCUMULATOR.joined(of_port(port)),
+        LowByte::Operate(_, right) => of_right(right),
     }
 }
 
@@ -193,13 +216,16 @@ impl Instruction {
             | Instruction::Locate(_)
             | Instruction::LocateAt(_)
             | Instruction::Load(_, _)
-            | Instruction::Unary(_, _) => ACCUMULATOR,
+            | Instruction::Unary(_, _)
+            | Instruction::Next(_, _, _, _) => ACCUMULATOR,
             Instruction::LoadAt(_, _)
             | Instruction::LoadThere(_)
             | Instruction::StoreAt(_, _)
             | Instruction::StoreThere(_) => ACCUMULATOR.joined(ADDRESS),
+            Instruction::StoreTop(_, _) => RIGHT,
             Instruction::Pick(_) => ACCUMULATOR.joined(FRAME),
             Instruction::Drop(count) => of_drop(count),
+            Instruction::Low(low, _) => of_low(low),
             Instruction::Binary(operation, _) => of_operator(operation),
             Instruction::BinaryConstant(operation, _, _) => of_direct(operation),
             Instruction::BinaryPlain(operation, _, read, _) => of_read(read, operation),

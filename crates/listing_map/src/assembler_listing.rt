@@ -5,6 +5,7 @@
 
 mod marks;
 mod mnemonics;
+mod rounds;
 
 ghost use Rattle.std.specs.Prelude.{◌≡◌, ◌≤◌, ◌++◌, ℕ, List, length, IfOk, IfSome};
 ghost use Rattle.listing_map.specs.ProgramMap.{map_text};
@@ -22,7 +23,8 @@ use layout_link::{Image, RESET, start_up_room};
 use marks::{Mark, Sort, marks_of, sort_of};
 use mnemonics::{put_instruction, put_number};
 use plm_decl::{Names, Statement};
-use plm_type::Program;
+use plm_type::{Program, Statement as Typed};
+use rounds::note_all;
 use select::{RowPlaces, select};
 use std::alloc::{AllocError, Global};
 use word86::{Fault, Width};
@@ -81,6 +83,18 @@ fn statements_of(names: &Names, routine: Routine) -> &[Statement] {
     match routine {
         Routine::Main => names.main.statements.as_slice(),
         Routine::Procedure(number) => match names.procedures.get(number) {
+            Some(procedure) => procedure.body.as_slice(),
+            None => &[],
+        },
+        Routine::Unserved | Routine::Nowhere => &[],
+    }
+}
+
+/// The same with their types.
+fn typed_of(program: &Program, routine: Routine) -> &[Box<Typed>] {
+    match routine {
+        Routine::Main => program.main(),
+        Routine::Procedure(number) => match program.procedures().get(number) {
             Some(procedure) => procedure.body.as_slice(),
             None => &[],
         },
@@ -241,6 +255,7 @@ impl Listed<'_> {
     /// The part of a routine, which begins here.
     fn section(
         self,
+        program: &Program,
         rows: &RowPlaces<'_>,
         routine: Routine,
         begin: usize,
@@ -249,7 +264,9 @@ impl Listed<'_> {
         let places = rows.of(self.alloc, routine)?;
         let (module, line) = declared_at(self.names, routine);
         let statements = statements_of(self.names, routine);
-        let marks = marks_of(statements, instructions, Vec::new(self.alloc))?;
+        let mut endless = Vec::new(self.alloc);
+        note_all(typed_of(program, routine), &mut endless)?;
+        let marks = marks_of(statements, &endless, instructions, Vec::new(self.alloc))?;
         Ok(Section {
             routine,
             begin,
@@ -261,16 +278,16 @@ impl Listed<'_> {
     }
 
     /// All parts, one after another.
-    fn sections(self) -> Result<Vec<Section>, Fault> {
+    fn sections(self, program: &Program) -> Result<Vec<Section>, Fault> {
         let rows = RowPlaces::new(self.alloc, self.code)?;
         let mut begin = self.begin;
         let mut all = Vec::new(self.alloc);
         for routine in routines_of(self.alloc, self.code)? {
-            let section = self.section(&rows, routine, begin)?;
+            let section = self.section(program, &rows, routine, begin)?;
             begin = section.end();
             all.push(section)?;
         }
-        all.push(self.section(&rows, Routine::Unserved, begin)?)?;
+        all.push(self.section(program, &rows, Routine::Unserved, begin)?)?;
         Ok(all)
     }
 
@@ -469,9 +486,13 @@ fn map_lines(alloc: Global, image: &Image, program: &Program) -> Result<Vec<u8>,
 }
 
 /// What stands behind the map's lines.
-fn parts_text(listed: Listed<'_>, sources: &[NamedText<'_>]) -> Result<Vec<u8>, Fault> {
+fn parts_text(
+    listed: Listed<'_>,
+    program: &Program,
+    sources: &[NamedText<'_>],
+) -> Result<Vec<u8>, Fault> {
     let alloc = listed.alloc;
-    let sections = listed.sections()?;
+    let sections = listed.sections(program)?;
     let mut writing = Writing {
         listed,
         lines: all_lines(alloc, sources)?,
@@ -506,7 +527,7 @@ pub fn code_listing(
         rom: &image.rom,
         begin: parts_begin(alloc, names, code)?,
     };
-    let behind = parts_text(listed, sources)?;
+    let behind = parts_text(listed, program, sources)?;
     let mut text = map_lines(alloc, image, program)?;
     text.extend_from_slice(&behind)?;
     Ok(text)

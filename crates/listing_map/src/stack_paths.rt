@@ -34,6 +34,7 @@ fn called(instruction: Instruction) -> Option<usize> {
         | Instruction::Load(_, _)
         | Instruction::LoadAt(_, _)
         | Instruction::LoadThere(_)
+        | Instruction::Low(_, _)
         | Instruction::Push
         | Instruction::Pick(_)
         | Instruction::Drop(_)
@@ -44,6 +45,7 @@ fn called(instruction: Instruction) -> Option<usize> {
         | Instruction::Store(_, _)
         | Instruction::StoreAt(_, _)
         | Instruction::StoreThere(_)
+        | Instruction::StoreTop(_, _)
         | Instruction::Send(_)
         | Instruction::SendTo(_, _)
         | Instruction::Receive(_)
@@ -52,6 +54,7 @@ fn called(instruction: Instruction) -> Option<usize> {
         | Instruction::AheadUnless(_, _)
         | Instruction::Back(_)
         | Instruction::BackUnless(_, _)
+        | Instruction::Next(_, _, _, _)
         | Instruction::Switch(_)
         | Instruction::Case(_)
         | Instruction::Leave

@@ -1,7 +1,7 @@
 -- The runs of a checked program's code are allowed.
 use Rattle.std.proofs.Common.{◌≡◌, ℕ, zero, suc, Bool, true, false, List, [], ◌∷◌, ◌++◌, Option, Some, None, refl, slice_get}
+use Rattle.std.specs.Prelude.{cond, is_some, Contains, map}
 use Rattle.lower.proofs.Faultless.{none_of_both}
-use Rattle.std.specs.Prelude.{cond, not, ◌&&◌, is_some, Contains, map}
 use Rattle.plm_decl.specs.declared.names.Variable.{Variable}
 use Rattle.plm_decl.specs.Names.{ProcedureR, declared_location_of}
 use Rattle.plm_decl.specs.Placement.{sizes_of}

@@ -11,7 +11,7 @@ use Rattle.word86.specs.declared.operation.BinaryOperation.TheVariants as binary
 use Rattle.word86.specs.declared.place.Place.{Place}
 use Rattle.word86.specs.declared.place.Place.TheVariants as places
 use Rattle.word86.specs.Access.{Read, Write, Where}
-use Rattle.word86.specs.Action.{Silent, map_action}
+use Rattle.word86.specs.Action.{Silent, Touch, map_action}
 use Rattle.word86.specs.Arithmetic.{low}
 use Rattle.word86.specs.Operation.{unary_value, binary_value}
 use Rattle.word86.specs.Place.{bytes, held}
@@ -27,28 +27,34 @@ use Rattle.icode.specs.declared.code.Word.TheVariants.{Return}
 use Rattle.icode.specs.declared.code.Word.TheVariants as words
 use Rattle.icode.specs.Machine.{Context, At, run, loaded, stored, found, address, computed, with_value, value_in, dropped}
 use Rattle.icode.specs.Machine as machine
-use Rattle.lower.specs.Expressions.{are_giving, used, Operand, Number, Name, Computed, operand_of, place_of, beside, operation, anchor_place, moved, from_base, based, reading, locating}
+use Rattle.lower.specs.Expressions.{are_giving, used, folded, unless_known, number_of, Operand, Number, Name, Computed, operand_of, place_of, beside, operation, anchor_place, moved, from_base, based, reading, locating}
 use Rattle.lower.specs.Well.{Lies, AnchorLies, IsExpression}
 use Rattle.lower.proofs.Setting.{Setting}
 use Rattle.lower.proofs.Sim.{N, X, T, S, eased, then_, up, down, both, bad, touches}
 use Rattle.lower.proofs.Holes.{IsHole, IsReferenceHole, IsTargetHole, write_to, in_right, in_variable, in_location, acts, HasAt, has_front, has_back}
 use Rattle.lower.proofs.Memory.{IsFixed, found_plain, found_fixed, address_fixed}
 use Rattle.lower.proofs.Values.{values_small, unary_small, binary_small}
+use Rattle.lower.proofs.Nodes.{nodes}
+use Rattle.lower.proofs.Folds.{folded_small, folds}
 
 -- ---- operands
 
 abbrev pub IsOperand : Expression → Operand → Type 0
-IsOperand e (Number k) = e ≡ Constant k
+IsOperand e (Number k) = folded e ≡ Some k
 IsOperand e (Name read y) = (z : Where) × (e ≡ Plain read z) × (y ≡ place_of z)
 IsOperand e Computed = Unit {0}
+
+known_is : (e : Expression) (z : Option ℕ) → folded e ≡ z → IsOperand e (number_of z)
+known_is e (Some k) h = h
+known_is e None h = tt
 
 pub operand_is : (e : Expression) → IsOperand e (operand_of e)
 operand_is (Constant k) = refl
 operand_is (Plain w z) = (z, refl, refl)
 operand_is (Variable w r) = tt
 operand_is (Location r) = tt
-operand_is (Unary o w e) = tt
-operand_is (Binary m l o w a b) = tt
+operand_is (Unary o w e) = known_is (Unary o w e) (folded (Unary o w e)) refl
+operand_is (Binary m l o w a b) = known_is (Binary m l o w a b) (folded (Binary m l o w a b)) refl
 operand_is (Embedded t e) = tt
 operand_is (Input w e) = tt
 operand_is (Call p es) = tt
@@ -90,7 +96,7 @@ abbrev pub Reached : Subscripts → ℕ → ℕ → ℕ → Type 0
 Reached NoSubscripts offset further more = offset ≡ further
 Reached (Subscript stride e ss) offset further more = (offset + more) % 65536 ≡ further % 65536
 
-at_once : (offset further : ℕ) → offset ≡ further → (offset + 0) % 65536 ≡ further % 65536
+pub at_once : (offset further : ℕ) → offset ≡ further → (offset + 0) % 65536 ≡ further % 65536
 at_once offset further e = omega (arith, e)
 
 pub one_sum : (o p b : ℕ) → b % 65536 ≡ p % 65536 → (o + b) % 65536 ≡ ((o + p) % 65536) % 65536
@@ -145,14 +151,20 @@ module _ (x : Setting) where
   pub has_at : (r : Routine) (p q : ℕ) (os : List Instruction) → p ≡ q → HasAt (x.code r) p os → HasAt (x.code r) q os
   has_at r p q os e h = subst (λ y. HasAt (x.code r) y os) e h
 
+  pub rise_in : (m n f : ℕ) (R : Rest) (i : Context) → m ≤ x.room → f ≤ 2 → S x m n f R i → S x x.room n 2 R i
+  rise_in m n f R i few le h = eased x m x.room n f 2 R i few le h
+
   pub rise : (n f : ℕ) (R : Rest) (i : Context) → f ≤ 2 → S x 2 n f R i → S x x.room n 2 R i
-  rise n f R i le h = eased x 2 x.room n f 2 R i (omega (arith, x.wide)) le h
+  rise n f R i le h = rise_in 2 n f R i (omega (arith, x.wide)) le h
 
   pub ended : (n : ℕ) (C : Expression → Rest) (r : Routine) (p : ℕ) (ws : List Word) → After n C r p ws → (v : ℕ) → v < 65536 → T x n 2 (C (Value v)) (At r p v ws)
   ended n C r p ws k v lt = then_ x x.room n 2 2 (C (Value v)) (At r p v ws) (omega arith) (omega arith) (k v lt)
 
+  pub soon_in : (m n f g : ℕ) (R : Rest) (i : Context) → m ≤ x.room → f ≤ g → S x m n f R i → T x n g R i
+  soon_in m n f g R i few le h = then_ x m n f g R i (omega (arith, few)) le h
+
   pub soon : (n f g : ℕ) (R : Rest) (i : Context) → f ≤ g → S x 2 n f R i → T x n g R i
-  soon n f g R i le h = then_ x 2 n f g R i (omega arith) le h
+  soon n f g R i le h = soon_in 2 n f g R i (omega (arith, x.wide)) le h
 
   -- a value that is used, after a call
   pub used_then : (g : Bool) (n : ℕ) (C : Expression → Rest) (r : Routine) (p : ℕ) (ws : List Word) → HasAt (x.code r) p (used g) → After n C r (p + length (used g)) ws → Left g n C r p ws
@@ -168,8 +180,16 @@ module _ (x : Setting) where
   -- ---- operators
 
   module _ (n : ℕ) (C : Expression → Rest) (cx : IsHole x C) (r : Routine) (ws : List Word) where
-    pub constant_then : (p k a : ℕ) → k < 65536 → slice_get (x.code r) p ≡ Some (op.Constant k) → After n C r (p + 1) ws → S x 2 n 0 (C (Constant k)) (At r p a ws)
-    constant_then p k a lt h after = both x 1 n 0 (C (Constant k)) (C (Value k)) (At r p a ws) (At r (p + 1) k ws) (cx (Constant k) refl) (acts x r p a ws (op.Constant k) h) (ended n C r (p + 1) ws after k lt)
+    -- a constant, after the silent steps that lead to it
+    pub folded_then : (e : Expression) (p k a : ℕ) → folded e ≡ Some k → k < 65536 → slice_get (x.code r) p ≡ Some (op.Constant k) → After n C r (p + 1) ws → S x (nodes e + 2) n 0 (C e) (At r p a ws)
+    folded_then e p k a is lt h after =
+        folds x e k is 2 n 0 (omega arith) C cx (At r p a ws) (λ R u. both x 1 n 0 R (C (Value k)) (At r p a ws) (At r (p + 1) k ws) u (acts x r p a ws (op.Constant k) h) (ended n C r (p + 1) ws after k lt))
+
+    -- what is known of an expression stands in place of its code
+    pub known_then : (procedures : List Procedure) (MayCall : ℕ → Type 0) (e : Expression) → IsExpression x.sizes procedures MayCall e → (z : Option ℕ) → folded e ≡ z → (code : List Instruction) (p : ℕ) → HasAt (x.code r) p (unless_known z code) → After n C r (p + length (unless_known z code)) ws
+        → (HasAt (x.code r) p code → After n C r (p + length code) ws → (a : ℕ) → S x (nodes e + 2) n 0 (C e) (At r p a ws)) → (a : ℕ) → S x (nodes e + 2) n 0 (C e) (At r p a ws)
+    known_then procedures MayCall e good (Some k) is code p has after sim a = folded_then e p k a is (folded_small x.sizes procedures MayCall e good k is) has.0 after
+    known_then procedures MayCall e good None is code p has after sim a = sim has after a
 
     pub plain_then : (p a : ℕ) (w : Width) (y : Where) → Lies x.sizes w y → slice_get (x.code r) p ≡ Some (op.Load w (place_of y)) → After n C r (p + 1) ws → S x 2 n 0 (C (Plain w y)) (At r p a ws)
     plain_then p a w y lies h after =
@@ -191,10 +211,11 @@ module _ (x : Setting) where
     computes m l o w u v i p us vs h after (Some z) e =
         both x 0 n 0 (C (Binary m l o w (Value u) (Value v))) (C (Value z)) i (At r p z ws) (binary_is m l o w u v (Some z) e) (h ∙ ap (λ y. machine.operated y (λ y. At r p y ws)) e) (ended n C r p ws after z (binary_small o w u v z us vs e))
 
-    constant_operand : (m l : ℕ) (o : BinaryOperation) (w : Width) (u k p : ℕ) → u < 65536 → k < 65536 → slice_get (x.code r) p ≡ Some (op.BinaryConstant o w k) → After n C r (p + 1) ws → S x 2 n 0 (C (Binary m l o w (Value u) (Constant k))) (At r p u ws)
-    constant_operand m l o w u k p us ks h after =
-        up x 1 n 0 (omega arith) (C (Binary m l o w (Value u) (Constant k))) (C (Binary m l o w (Value u) (Value k))) (At r p u ws) (in_right x C cx m l o w u (Constant k) refl)
-        (computes m l o w u k (At r p u ws) (p + 1) us ks (acts x r p u ws (op.BinaryConstant o w k) h) after (binary_value o w u k) refl)
+    constant_operand : (m l : ℕ) (o : BinaryOperation) (w : Width) (u k p : ℕ) → u < 65536 → (b : Expression) → folded b ≡ Some k → k < 65536 → slice_get (x.code r) p ≡ Some (op.BinaryConstant o w k) → After n C r (p + 1) ws → S x (nodes b + 2) n 0 (C (Binary m l o w (Value u) b)) (At r p u ws)
+    constant_operand m l o w u k p us b is ks h after =
+        folds x b k is 2 n 0 (omega arith) (λ y. C (Binary m l o w (Value u) y)) (in_right x C cx m l o w u) (At r p u ws)
+        (λ R e. up x 1 n 0 (omega arith) R (C (Binary m l o w (Value u) (Value k))) (At r p u ws) e
+        (computes m l o w u k (At r p u ws) (p + 1) us ks (acts x r p u ws (op.BinaryConstant o w k) h) after (binary_value o w u k) refl))
 
     read_operand : (m l : ℕ) (o : BinaryOperation) (w : Width) (u v p : ℕ) → u < 65536 → v < 65536 → After n C r p ws → (z : Option ℕ) → binary_value o w u v ≡ z → T x n 2 (C (Binary m l o w (Value u) (Value v))) (computed z r p ws)
     read_operand m l o w u v p us vs after None e = soon n 0 2 (C (Binary m l o w (Value u) (Value v))) (computed None r p ws) (omega arith) (bad x 2 n 0 (C (Binary m l o w (Value u) (Value v))) (computed None r p ws) m l (binary_is m l o w u v None e))
@@ -210,23 +231,22 @@ module _ (x : Setting) where
         (λ v lt. read_operand m l o w u v (p + 1) us (values_small read v lt) after (binary_value o w u v) refl)
 
   -- the right operand from what its code does, and the operator
-  pub right_then : (procedures : List Procedure) (MayCall : ℕ → Type 0) (b : Expression) → IsExpression x.sizes procedures MayCall b → (o : Operand) → IsOperand b o → (code : List Instruction) → (n : ℕ) (C : Expression → Rest) → IsHole x C → (m l : ℕ) (q : BinaryOperation) (w : Width) (u : ℕ) → u < 65536 → (r : Routine) (p : ℕ) (ws : List Word)
+  pub right_then : (procedures : List Procedure) (MayCall : ℕ → Type 0) (b : Expression) → IsExpression x.sizes procedures MayCall b → nodes b + 2 ≤ x.room → (o : Operand) → IsOperand b o → (code : List Instruction) → (n : ℕ) (C : Expression → Rest) → IsHole x C → (m l : ℕ) (q : BinaryOperation) (w : Width) (u : ℕ) → u < 65536 → (r : Routine) (p : ℕ) (ws : List Word)
       → HasAt (x.code r) p (beside o code ++ operation q w o ∷ [])
-      → ((p : ℕ) → HasAt (x.code r) p code → After n (λ e. C (Binary m l q w (Value u) e)) r (p + length code) (words.Value u ∷ ws) → S x 2 n 0 (C (Binary m l q w (Value u) b)) (At r p u (words.Value u ∷ ws)))
-      → After n C r (p + length (beside o code ++ operation q w o ∷ [])) ws → S x 2 n 1 (C (Binary m l q w (Value u) b)) (At r p u ws)
-  right_then procedures MayCall b good (Number k) is code n C cx m l q w u us r p ws has sim after =
-      let ks : k < 65536 = subst (λ e. IsExpression x.sizes procedures MayCall e) is good in
-      eased x 2 2 n 0 1 (C (Binary m l q w (Value u) b)) (At r p u ws) (omega arith) (omega arith)
-      (subst (λ e. S x 2 n 0 (C (Binary m l q w (Value u) e)) (At r p u ws)) (sym is) (constant_operand n C cx r ws m l q w u k p us ks has.0 after))
-  right_then procedures MayCall b good (Name read y) is code n C cx m l q w u us r p ws has sim after =
+      → ((p : ℕ) → HasAt (x.code r) p code → After n (λ e. C (Binary m l q w (Value u) e)) r (p + length code) (words.Value u ∷ ws) → S x (nodes b + 2) n 0 (C (Binary m l q w (Value u) b)) (At r p u (words.Value u ∷ ws)))
+      → After n C r (p + length (beside o code ++ operation q w o ∷ [])) ws → S x (nodes b + 2) n 1 (C (Binary m l q w (Value u) b)) (At r p u ws)
+  right_then procedures MayCall b good fits (Number k) is code n C cx m l q w u us r p ws has sim after =
+      eased x (nodes b + 2) (nodes b + 2) n 0 1 (C (Binary m l q w (Value u) b)) (At r p u ws) (omega arith) (omega arith)
+      (constant_operand n C cx r ws m l q w u k p us b is (folded_small x.sizes procedures MayCall b good k is) has.0 after)
+  right_then procedures MayCall b good fits (Name read y) is code n C cx m l q w u us r p ws has sim after =
       let lies : Lies x.sizes read is.0 = subst (λ e. IsExpression x.sizes procedures MayCall e) is.1 good in
-      eased x 2 2 n 0 1 (C (Binary m l q w (Value u) b)) (At r p u ws) (omega arith) (omega arith)
+      eased x 2 (nodes b + 2) n 0 1 (C (Binary m l q w (Value u) b)) (At r p u ws) (omega arith) (omega arith)
       (subst (λ e. S x 2 n 0 (C (Binary m l q w (Value u) e)) (At r p u ws)) (sym is.1) (plain_operand n C cx r ws m l q w read is.0 u p us lies (subst (λ z. slice_get (x.code r) p ≡ Some (op.BinaryPlain q w read z)) is.2 has.0) after))
-  right_then procedures MayCall b good Computed is code n C cx m l q w u us r p ws has sim after =
+  right_then procedures MayCall b good fits Computed is code n C cx m l q w u us r p ws has sim after =
       let h = has_back (x.code r) (p + 1) code (op.Binary q w ∷ []) has.1 in
       let at : p + length (op.Push ∷ (code ++ op.Binary q w ∷ [])) ≡ p + 1 + length code + 1 = omega (arith, length-append code (op.Binary q w ∷ [])) in
-      push_then 2 n 0 (C (Binary m l q w (Value u) b)) r p u ws has.0
-      (soon n 0 0 (C (Binary m l q w (Value u) b)) (At r (p + 1) u (words.Value u ∷ ws)) (omega arith)
+      push_then (nodes b + 2) n 0 (C (Binary m l q w (Value u) b)) r p u ws has.0
+      (soon_in (nodes b + 2) n 0 0 (C (Binary m l q w (Value u) b)) (At r (p + 1) u (words.Value u ∷ ws)) fits (omega arith)
       (sim (p + 1) (has_front (x.code r) (p + 1) code (op.Binary q w ∷ []) has.1)
       (λ v vs. eased x 1 x.room n 0 2 (C (Binary m l q w (Value u) (Value v))) (At r (p + 1 + length code) v (words.Value u ∷ ws)) (omega (arith, x.wide)) (omega arith)
       (computes n C cx r ws m l q w u v (At r (p + 1 + length code) v (words.Value u ∷ ws)) (p + 1 + length code + 1) us vs (acts x r (p + 1 + length code) v (words.Value u ∷ ws) (op.Binary q w) h.0)
@@ -249,15 +269,16 @@ module _ (x : Setting) where
   read_then n f w m l anchor offset ss (Some y) d same R C u i r p ws e after g =
       touches x g n f (Read w y) R (λ v. C (Value v)) i (λ v. At r p v ws) u (e ∙ ap (λ z. loaded w z (λ v. At r p v ws)) (same y refl)) (λ v lt. ended n C r p ws after v (values_small w v lt))
 
-  -- a write at a place, or a Bad step
-  write_then : (n f : ℕ) (w : Width) (m l : ℕ) (anchor : Anchor) (offset : ℕ) (ss : Subscripts) (v : ℕ) (o d : Option Where) → ((y : Where) → o ≡ Some y → d ≡ Some y) → (R done : Rest) → N x R ≡ write_to w (Refer m l anchor offset ss) o v done
-      → (i : Context) (r : Routine) (p : ℕ) (ws : List Word) → X x i ≡ stored w d v (At r p v ws) → S x x.room n 2 done (At r p v ws) → (g : ℕ) → S x g n f R i
-  write_then n f w m l anchor offset ss v None d same R done u i r p ws e after g = bad x g n f R i m l u
-  write_then n f w m l anchor offset ss v (Some y) d same R done u i r p ws e after g =
-      touches x g n f (Write w y (low w v)) R (λ z. done) i (λ z. At r p v ws) u (e ∙ ap (λ z. stored w z v (At r p v ws)) (same y refl)) (λ z lt. then_ x x.room n 2 2 done (At r p v ws) (omega arith) (omega arith) after)
+  -- a write at a place, or a Bad step; what is written of a value is what is written of the accumulator
+  write_then : (n f : ℕ) (w : Width) (m l : ℕ) (anchor : Anchor) (offset : ℕ) (ss : Subscripts) (v u : ℕ) → low w u ≡ low w v → (o d : Option Where) → ((y : Where) → o ≡ Some y → d ≡ Some y) → (R done : Rest) → N x R ≡ write_to w (Refer m l anchor offset ss) o v done
+      → (i : Context) (r : Routine) (p : ℕ) (ws : List Word) → X x i ≡ stored w d u (At r p u ws) → S x x.room n 2 done (At r p u ws) → (g : ℕ) → S x g n f R i
+  write_then n f w m l anchor offset ss v u gets None d same R done is i r p ws e after g = bad x g n f R i m l is
+  write_then n f w m l anchor offset ss v u gets (Some y) d same R done is i r p ws e after g =
+      touches x g n f (Write w y (low w v)) R (λ z. done) i (λ z. At r p u ws) is (e ∙ ap (λ z. stored w z u (At r p u ws)) (same y refl) ∙ ap (λ z. Touch (Write w y z) (λ _. At r p u ws)) gets)
+      (λ z lt. then_ x x.room n 2 2 done (At r p u ws) (omega arith) (omega arith) after)
 
   -- the base's address, further on by an offset
-  moved_then : (n offset b z : ℕ) (c : Bool) → nat_eq offset 0 ≡ c → (R : Rest) (r : Routine) (p : ℕ) (ws : List Word) → (offset ≡ 0 → b ≡ z) → (b + offset % 65536) % 65536 ≡ z → HasAt (x.code r) p (cond c [] (op.BinaryConstant binary.Add widths.Word (offset % 65536) ∷ []))
+  pub moved_then : (n offset b z : ℕ) (c : Bool) → nat_eq offset 0 ≡ c → (R : Rest) (r : Routine) (p : ℕ) (ws : List Word) → (offset ≡ 0 → b ≡ z) → (b + offset % 65536) % 65536 ≡ z → HasAt (x.code r) p (cond c [] (op.BinaryConstant binary.Add widths.Word (offset % 65536) ∷ []))
       → S x (suc x.room) n 1 R (At r (p + length (cond c [] (op.BinaryConstant binary.Add widths.Word (offset % 65536) ∷ []))) z ws) → T x n 2 R (At r p b ws)
   moved_then n offset b z true e R r p ws still on has k =
       let h : S x (suc x.room) n 1 R (At r p b ws) = subst (λ y. S x (suc x.room) n 1 R (At r p y ws)) (sym (still (eqb-true offset 0 e))) (moved_to (suc x.room) n 1 R r (p + 0) p z ws (omega arith) k) in
@@ -279,7 +300,7 @@ module _ (x : Setting) where
       (then_ x x.room n 2 2 Q (At r (p + 1) z ws) (omega arith) (omega arith) k))
 
   -- the base is read, and what is in the accumulator then lacks the offset alone
-  behind_then : (n : ℕ) (C : Reference → Rest) → IsReferenceHole x C → (m l : ℕ) (base : Where) → Lies x.sizes widths.Word base → (ss : Subscripts) (offset further more : ℕ) → Reached ss offset further more → (r : Routine) (p : ℕ) (ws : List Word) → slice_get (x.code r) p ≡ Some (from_base base ss)
+  pub behind_then : (n : ℕ) (C : Reference → Rest) → IsReferenceHole x C → (m l : ℕ) (base : Where) → Lies x.sizes widths.Word base → (ss : Subscripts) (offset further more : ℕ) → Reached ss offset further more → (r : Routine) (p : ℕ) (ws : List Word) → slice_get (x.code r) p ≡ Some (from_base base ss)
       → ((b c : ℕ) → (offset ≡ 0 → c ≡ (b + further) % 65536) → (c + offset % 65536) % 65536 ≡ (b + further) % 65536 → T x n 2 (C (Refer m l (There b) further NoSubscripts)) (At r (p + 1) c ws)) → S x 2 n 0 (C (Refer m l (Behind base) further NoSubscripts)) (At r p more ws)
   behind_then n C cx m l base lies NoSubscripts offset further more is r p ws has k =
       touches x 2 n 0 (Read widths.Word base) (C (Refer m l (Behind base) further NoSubscripts)) (λ b. C (Refer m l (There b) further NoSubscripts)) (At r p more ws) (λ b. At r (p + 1) b ws)
@@ -295,7 +316,7 @@ module _ (x : Setting) where
   -- ---- what comes after the subscripts of a reference
 
   module _ (n : ℕ) (C : Expression → Rest) (cx : IsHole x C) (r : Routine) (ws : List Word) (m l : ℕ) where
-    variable_is : (w : Width) (anchor : Anchor) (further a : ℕ) → address_of x.offsets x.sizes x.procedures (Refer m l anchor further NoSubscripts) ≡ Some a
+    pub variable_is : (w : Width) (anchor : Anchor) (further a : ℕ) → address_of x.offsets x.sizes x.procedures (Refer m l anchor further NoSubscripts) ≡ Some a
         → N x (C (Variable w (Refer m l anchor further NoSubscripts))) ≡ map_action C (read_at w (Refer m l anchor further NoSubscripts) (placed x.offsets x.sizes w anchor a))
     variable_is w anchor further a e =
         let q = Refer m l anchor further NoSubscripts in
@@ -364,27 +385,27 @@ module _ (x : Setting) where
 
   -- ---- what comes after the subscripts of a target
 
-  module _ (n v : ℕ) (C : Target → Rest) (done : Rest) (tx : IsTargetHole x v C done) (r : Routine) (ws : List Word) (m l : ℕ) where
-    pub fixed_written : (w : Width) (anchor : Anchor) → AnchorLies x.sizes anchor → IsFixed anchor → (offset further more : ℕ) → (offset + more) % 65536 ≡ further % 65536 → (i : Context) (p : ℕ)
-        → X x i ≡ stored w (found x.offsets x.sizes w (anchor_place anchor offset) (address x.offsets x.sizes (anchor_place anchor offset) more)) v (At r p v ws) → S x x.room n 2 done (At r p v ws)
+  module _ (n v u : ℕ) (C : Target → Rest) (done : Rest) (tx : IsTargetHole x v C done) (r : Routine) (ws : List Word) (m l : ℕ) where
+    pub fixed_written : (w : Width) → low w u ≡ low w v → (anchor : Anchor) → AnchorLies x.sizes anchor → IsFixed anchor → (offset further more : ℕ) → (offset + more) % 65536 ≡ further % 65536 → (i : Context) (p : ℕ)
+        → X x i ≡ stored w (found x.offsets x.sizes w (anchor_place anchor offset) (address x.offsets x.sizes (anchor_place anchor offset) more)) u (At r p u ws) → S x x.room n 2 done (At r p u ws)
         → S x 2 n 0 (C (ToVariable w (Refer m l anchor further NoSubscripts))) i
-    fixed_written w anchor lies fixed offset further more e i p h after =
+    fixed_written w gets anchor lies fixed offset further more e i p h after =
         let a = address x.offsets x.sizes (anchor_place anchor offset) more in
         let q = Refer m l anchor further NoSubscripts in
-        write_then n 0 w m l anchor further NoSubscripts v (placed x.offsets x.sizes w anchor a) (found x.offsets x.sizes w (anchor_place anchor offset) a) (λ y. found_fixed x w anchor lies fixed offset a y)
+        write_then n 0 w m l anchor further NoSubscripts v u gets (placed x.offsets x.sizes w anchor a) (found x.offsets x.sizes w (anchor_place anchor offset) a) (λ y. found_fixed x w anchor lies fixed offset a y)
         (C (ToVariable w q)) done (tx.written w q a (address_fixed x m l anchor fixed offset more further e)) i r p ws h after 2
 
-    pub behind_written : (w : Width) (base : Where) → Lies x.sizes widths.Word base → (ss : Subscripts) (offset further more : ℕ) → Reached ss offset further more → (p : ℕ) → HasAt (x.code r) p (based base offset ss ++ op.StoreThere w ∷ [])
-        → S x x.room n 2 done (At r (p + length (based base offset ss ++ op.StoreThere w ∷ [])) v ws) → S x 2 n 0 (C (ToVariable w (Refer m l (Behind base) further NoSubscripts))) (At r p more (words.Value v ∷ ws))
-    behind_written w base lies ss offset further more is p has after =
+    pub behind_written : (w : Width) → low w u ≡ low w v → (base : Where) → Lies x.sizes widths.Word base → (ss : Subscripts) (offset further more : ℕ) → Reached ss offset further more → (p : ℕ) → HasAt (x.code r) p (based base offset ss ++ op.StoreThere w ∷ [])
+        → S x x.room n 2 done (At r (p + length (based base offset ss ++ op.StoreThere w ∷ [])) u ws) → S x 2 n 0 (C (ToVariable w (Refer m l (Behind base) further NoSubscripts))) (At r p more (words.Value u ∷ ws))
+    behind_written w gets base lies ss offset further more is p has after =
         let cb = based base offset ss in
-        let st = words.Value v ∷ ws in
+        let st = words.Value u ∷ ws in
         let h = has_back (x.code r) p cb (op.StoreThere w ∷ []) has in
         let pm = p + 1 + length (moved offset) in
         let at : p + length cb ≡ pm = omega arith in
         behind_then n (λ q. C (ToVariable w q)) (tx.part w) m l base lies ss offset further more is r p st has.0
         (λ b c still on. moved_then n offset c ((b + further) % 65536) (nat_eq offset 0) refl (C (ToVariable w (Refer m l (There b) further NoSubscripts))) r (p + 1) st still on (has_front (x.code r) (p + 1) (moved offset) (op.StoreThere w ∷ []) has.1)
-        (write_then n 1 w m l (There b) further NoSubscripts v (held 0 x.offsets x.sizes ((b + further) % 65536) (bytes w)) (held 0 x.offsets x.sizes ((b + further) % 65536) (bytes w)) (λ y e. e)
+        (write_then n 1 w m l (There b) further NoSubscripts v u gets (held 0 x.offsets x.sizes ((b + further) % 65536) (bytes w)) (held 0 x.offsets x.sizes ((b + further) % 65536) (bytes w)) (λ y e. e)
         (C (ToVariable w (Refer m l (There b) further NoSubscripts))) done (tx.written w (Refer m l (There b) further NoSubscripts) ((b + further) % 65536) refl) (At r pm ((b + further) % 65536) st) r (pm + 1) ws
         (acts x r pm ((b + further) % 65536) st (op.StoreThere w) (has_at r (p + length cb) pm (op.StoreThere w ∷ []) at h).0)
-        (moved_to x.room n 2 done r (p + length (cb ++ op.StoreThere w ∷ [])) (pm + 1) v ws (omega (arith, length-append cb (op.StoreThere w ∷ []))) after) (suc x.room)))
+        (moved_to x.room n 2 done r (p + length (cb ++ op.StoreThere w ∷ [])) (pm + 1) u ws (omega (arith, length-append cb (op.StoreThere w ∷ []))) after) (suc x.room)))

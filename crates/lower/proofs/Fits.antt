@@ -4,16 +4,20 @@ use Rattle.std.proofs.Common.{◌≡◌, ℕ, zero, suc, ◌+◌, ◌-◌, ◌<�
 use Rattle.std.proofs.lemmas.List.{take-append-le}
 use Rattle.std.proofs.Math.Seq.{take-append-add, take-length}
 use Rattle.std.specs.Prelude.{take, drop}
+use Rattle.word86.specs.declared.width.Width.{Width}
+use Rattle.word86.specs.declared.width.Width.TheVariants as widths
+use Rattle.word86.specs.declared.place.Place.{Place}
 use Rattle.icode.specs.declared.instruction.Instruction.{Instruction}
 use Rattle.icode.specs.declared.instruction.Instruction.TheVariants as op
 use Rattle.icode.specs.declared.instruction.Test.{Test}
 use Rattle.icode.specs.Heights.{after, behind, popped}
 use Rattle.icode.specs.Made.{asked_constant, is_case}
 use Rattle.plm_type.specs.declared.program.Counting.{Counting}
+use Rattle.plm_type.specs.declared.program.Counting.TheVariants as counting
 use Rattle.plm_type.specs.Rest.{Scalar}
 use Rattle.lower.specs.Expressions.{Operand, Number, Name, Computed, place_of}
-use Rattle.lower.specs.Statements.{next_round, add_pushed, over, failing, choosing, all_of, entries, switching, exit_before}
-use Rattle.lower.proofs.Sums.{left_word}
+use Rattle.lower.specs.LowBytes.{low_load}
+use Rattle.lower.specs.Statements.{index_read, next_by_number, next_round, add_pushed, over, failing, choosing, all_of, entries, switching, exit_before, while_loop}
 use Rattle.lower.proofs.Heights.{Keeps, behind_append}
 
 -- a constant operand is a word
@@ -31,6 +35,12 @@ tested_down t n h e = omega (arith, e)
 
 pub tested_level : (xs ys : List Instruction) (t : Test) (n : ℕ) → behind 0 xs ≡ popped t → behind 0 ys ≡ 0 → behind 0 (xs ++ (op.AheadUnless t n ∷ ys)) ≡ 0
 tested_level xs ys t n f g = behind_append 0 xs (op.AheadUnless t n ∷ ys) ∙ (ap (λ h. behind h ys) (tested_down t n (behind 0 xs) f) ∙ g)
+
+pub while_loop_level : (b : Bool) (condition : List Instruction) (t : Test) (body : List Instruction) (exit : ℕ) → behind 0 condition ≡ popped t → behind 0 body ≡ 0 → behind 0 (while_loop b condition t body exit) ≡ 0
+while_loop_level true condition t body exit up level = level_then body (op.Back (length body + 1) ∷ []) level refl
+while_loop_level false condition t body exit up level =
+    let back = op.Back (length condition + length body + 2) ∷ [] in
+    tested_level condition (body ++ back) t (length body + 1 + exit) up (level_then body back level refl)
 
 over_level : (silent : Bool) (otherwise : List Instruction) (exit : ℕ) → behind 0 (over silent otherwise exit) ≡ 0
 over_level true otherwise exit = refl
@@ -65,8 +75,25 @@ all_level (c ∷ cs) f = level_then c (all_of cs) f.0 (all_level cs f.1)
 pub switching_level : (cases : List (List Instruction)) (exit : ℕ) → AreLevel cases → behind 0 (switching cases exit) ≡ 0
 switching_level cases exit f = level_then (entries 0 cases) (op.Ahead (length (all_of cases) + exit) ∷ all_of cases) (entries_level 0 cases) (all_level cases f)
 
+load_up : (w : Width) (at : Place) (more : List Instruction) (h : ℕ) → behind h (low_load w at ∷ more) ≡ behind h more
+load_up widths.Byte at more h = refl
+load_up widths.Word at more h = refl
+
+pub index_up : (bytes : Bool) (x : Scalar) (more : List Instruction) (h : ℕ) → behind h (index_read bytes x ∷ more) ≡ behind h more
+index_up true x more h = refl
+index_up false x more h = refl
+
+index_after : (bytes : Bool) (x : Scalar) → after (index_read bytes x) 0 ≡ 0
+index_after true x = refl
+index_after false x = refl
+
+number_level : (o : Counting) (x : Scalar) (s before : ℕ) → behind 0 (next_by_number o x s before) ≡ 0
+number_level counting.Up x s before = load_up x.width (place_of x.place) (op.Next x.width (place_of x.place) s (before + 2) ∷ []) 0
+number_level counting.SignedUp x s before = refl
+number_level counting.SignedDown x s before = refl
+
 pub next_level : (o : Counting) (x : Scalar) (step : Operand) (code : List Instruction) (before : ℕ) → Keeps code → behind 0 (next_round o x step code before) ≡ 0
-next_level o x (Number s) code before k = refl
+next_level o x (Number s) code before k = number_level o x s before
 next_level o x (Name read y) code before k = level_then code (add_pushed x (before + length code)) (k 0) refl
 next_level o x Computed code before k = level_then code (add_pushed x (before + length code)) (k 0) refl
 
@@ -81,6 +108,7 @@ module _ (MayCall : ℕ → Type 0) (Enables Finishes : Type 0) (Spot : ℕ → 
   Fit p h (op.AheadUnless t n) more = (after (op.AheadUnless t n) h ≡ 0) × Spot (p + 1 + n) × (asked_constant t < 65536)
   Fit p h (op.Back n) more = (h ≡ 0) × Spot (p + 1 - n)
   Fit p h (op.BackUnless t n) more = (after (op.BackUnless t n) h ≡ 0) × Spot (p + 1 - n) × (asked_constant t < 65536)
+  Fit p h (op.Next width x s n) more = (h ≡ 0) × Spot (p + 1 - n) × (s < 65536)
   Fit p h (op.Switch n) more = (h ≡ 0) × Spot (p + 1 + n) × ((j : ℕ) → j < n → is_case (slice_get more j) ≡ true)
   Fit p h (op.Case n) more = (h ≡ 0) × Spot (p + 1 + n)
   Fit p h (op.Invoke q) more = MayCall q
@@ -155,6 +183,29 @@ module _ (MayCall : ℕ → Type 0) (Enables Finishes : Type 0) (Spot : ℕ → 
   abbrev pub Fitting : ℕ → List Instruction → Type 0
   Fitting exit xs = (p : ℕ) → Spots p xs → Spot (p + length xs + exit) → Fits p 0 xs
 
+  -- the same without its end
+  abbrev pub Inner : ℕ → List Instruction → Type 0
+  Inner p xs = (k : ℕ) → k < length xs → behind 0 (take k xs) ≡ 0 → Spot (p + k)
+
+  pub inner_front : (p : ℕ) (xs ys : List Instruction) → 1 ≤ length ys → Inner p (xs ++ ys) → Spots p xs
+  inner_front p xs ys some s k le e = s k (omega (arith, le, some, length-append xs ys)) (ap (behind 0) (take-append-le k xs ys le) ∙ e)
+
+  pub inner_back : (p : ℕ) (xs ys : List Instruction) → behind 0 xs ≡ 0 → Inner p (xs ++ ys) → Inner (p + length xs) ys
+  inner_back p xs ys keeps s k lt e =
+      subst Spot (omega arith) (s (length xs + k) (omega (arith, lt, length-append xs ys))
+      (ap (behind 0) (take-append-add xs ys k) ∙ (behind_append 0 xs (take k ys) ∙ (ap (λ h. behind h (take k ys)) keeps ∙ e))))
+
+  pub inner_first : (p : ℕ) (xs : List Instruction) → 1 ≤ length xs → Inner p xs → Spot p
+  inner_first p xs some s = subst Spot (omega arith) (s 0 (omega (arith, some)) refl)
+
+  -- rounds without an end
+  pub forever_fits : (body : List Instruction) (p : ℕ) → behind 0 body ≡ 0 → Fitting 0 body → Inner p (body ++ op.Back (length body + 1) ∷ []) → Fits p 0 (body ++ op.Back (length body + 1) ∷ [])
+  forever_fits body p level fits s =
+      let back = op.Back (length body + 1) ∷ [] in
+      let last = inner_first (p + length body) back (omega arith) (inner_back p body back level s) in
+      fits_then p 0 0 body back (fits p (inner_front p body back (omega arith) s) (subst Spot (omega arith) last)) level
+      ((refl, subst Spot (omega arith) (inner_first p (body ++ back) (omega (arith, length-append body back)) s)), tt)
+
   tested_fits : (xs ys : List Instruction) (t : Test) (n p : ℕ) → Calm 0 xs → behind 0 xs ≡ popped t → asked_constant t < 65536 → Spot (p + length xs + 1 + n) → Fits (suc (p + length xs)) 0 ys → Fits p 0 (xs ++ (op.AheadUnless t n ∷ ys))
   tested_fits xs ys t n p f up word spot g =
       let down = tested_down t n (popped t) refl in
@@ -192,9 +243,9 @@ module _ (MayCall : ℕ → Type 0) (Enables Finishes : Type 0) (Spot : ℕ → 
       let rest = spots_back p xs ys level s in
       fits_then p 0 0 xs ys (f p (spots_front p xs ys s) (subst Spot (omega arith) (spots_first (p + length xs) ys rest))) level (g (p + length xs) rest (subst Spot (omega (arith, l)) end))
 
-  pub while_loop_fits : (condition body : List Instruction) (t : Test) (exit : ℕ) → Calm 0 condition → behind 0 condition ≡ popped t → asked_constant t < 65536 → behind 0 body ≡ 0 → Fitting 0 body
+  tested_loop_fits : (condition body : List Instruction) (t : Test) (exit : ℕ) → Calm 0 condition → behind 0 condition ≡ popped t → asked_constant t < 65536 → behind 0 body ≡ 0 → Fitting 0 body
       → Fitting exit (condition ++ (op.AheadUnless t (length body + 1 + exit) ∷ (body ++ op.Back (length condition + length body + 2) ∷ [])))
-  while_loop_fits condition body t exit f up word level fits p s end =
+  tested_loop_fits condition body t exit f up word level fits p s end =
       let n = length body + 1 + exit in
       let back = op.Back (length condition + length body + 2) ∷ [] in
       let lc = length-append condition (op.AheadUnless t n ∷ (body ++ back)) in
@@ -204,6 +255,13 @@ module _ (MayCall : ℕ → Type 0) (Enables Finishes : Type 0) (Spot : ℕ → 
       tested_fits condition (body ++ back) t n p f up word (subst Spot (omega (arith, lc, lb)) end)
       (fits_then q 0 0 body back (fits q (spots_front q body back rest) (subst Spot (omega arith) (spots_first (q + length body) back (spots_back q body back level rest)))) level
       ((refl, subst Spot (omega arith) (spots_first p (condition ++ (op.AheadUnless t n ∷ (body ++ back))) s)), tt))
+
+  pub while_loop_fits : (b : Bool) (condition body : List Instruction) (t : Test) (exit : ℕ) → Calm 0 condition → behind 0 condition ≡ popped t → asked_constant t < 65536 → behind 0 body ≡ 0 → Fitting 0 body → Fitting exit (while_loop b condition t body exit)
+  while_loop_fits true condition body t exit f up word level fits p s end =
+      let back = op.Back (length body + 1) ∷ [] in
+      fits_then p 0 0 body back (fits p (spots_front p body back s) (subst Spot (omega arith) (spots_first (p + length body) back (spots_back p body back level s)))) level
+      ((refl, subst Spot (omega arith) (spots_first p (body ++ back) s)), tt)
+  while_loop_fits false condition body t exit f up word level fits p s end = tested_loop_fits condition body t exit f up word level fits p s end
 
   -- ---- cases
 
@@ -244,35 +302,46 @@ module _ (MayCall : ℕ → Type 0) (Enables Finishes : Type 0) (Spot : ℕ → 
   added_fits : (x : Scalar) (before q : ℕ) → Spot (q - before) → Fits q 0 (add_pushed x before)
   added_fits x before q s = (tt, (tt, (tt, (tt, (tt, ((omega arith, subst Spot (omega arith) s, omega arith), tt))))))
 
+  load_fits : (w : Width) (at : Place) (q h : ℕ) (more : List Instruction) → Fits (suc q) h more → Fits q h (low_load w at ∷ more)
+  load_fits widths.Byte at q h more f = (tt, f)
+  load_fits widths.Word at q h more f = (tt, f)
+
+  index_fits : (bytes : Bool) (x : Scalar) (q : ℕ) (more : List Instruction) → Fits (suc q) 0 more → Fits q 0 (index_read bytes x ∷ more)
+  index_fits true x q more f = (tt, f)
+  index_fits false x q more f = (tt, f)
+
+  number_fits : (o : Counting) (x : Scalar) (n before q : ℕ) → n < 65536 → Spot (q - before) → Fits q 0 (next_by_number o x n before)
+  number_fits counting.Up x n before q lt s = load_fits x.width (place_of x.place) q 0 (op.Next x.width (place_of x.place) n (before + 2) ∷ []) ((refl, subst Spot (omega arith) s, lt), tt)
+  number_fits counting.SignedUp x n before q lt s = (tt, (lt, (tt, ((omega arith, subst Spot (omega arith) s, omega arith), tt))))
+  number_fits counting.SignedDown x n before q lt s = (tt, (lt, (tt, ((omega arith, subst Spot (omega arith) s, omega arith), tt))))
+
   next_fits : (o : Counting) (x : Scalar) (step : Operand) (code : List Instruction) (before q : ℕ) → IsWord step → Keeps code → Calm 0 code → Spot (q - before) → Fits q 0 (next_round o x step code before)
-  next_fits o x (Number n) code before q lt k f s = (tt, (lt, (tt, ((omega arith, subst Spot (omega arith) s, left_word o n lt), tt))))
+  next_fits o x (Number n) code before q lt k f s = number_fits o x n before q lt s
   next_fits o x (Name read y) code before q lt k f s = fits_then q 0 0 code (add_pushed x (before + length code)) (f q) (k 0) (added_fits x (before + length code) (q + length code) (subst Spot (omega arith) s))
   next_fits o x Computed code before q lt k f s = fits_then q 0 0 code (add_pushed x (before + length code)) (f q) (k 0) (added_fits x (before + length code) (q + length code) (subst Spot (omega arith) s))
 
-  pub counted_fits : (first compared body step : List Instruction) (o : Counting) (x : Scalar) (by : Operand) (t : Test) (exit : ℕ) → Calm 0 first → behind 0 first ≡ 0 → Calm 0 compared → behind 0 compared ≡ popped t → asked_constant t < 65536
+  pub counted_fits : (bytes : Bool) (first compared body step : List Instruction) (o : Counting) (x : Scalar) (by : Operand) (t : Test) (exit : ℕ) → Calm 0 first → behind 0 first ≡ 0 → Calm 0 compared → behind 0 compared ≡ popped t → asked_constant t < 65536
       → behind 0 body ≡ 0 → Fitting 0 body → IsWord by → Keeps step → Calm 0 step
       → Fitting exit (first
-      ++ (op.Store x.width (place_of x.place) ∷ op.Load x.width (place_of x.place)
+      ++ (op.Store x.width (place_of x.place) ∷ index_read bytes x
       ∷ (compared ++ (op.AheadUnless t (length body + length (next_round o x by step (length compared + length body + 2)) + exit) ∷ (body ++ next_round o x by step (length compared + length body + 2))))))
-  counted_fits first compared body step o x by t exit f fl c up word level fits lt k g p s end =
+  counted_fits bytes first compared body step o x by t exit f fl c up word level fits lt k g p s end =
       let again = next_round o x by step (length compared + length body + 2) in
       let n = length body + length again + exit in
       let test = op.AheadUnless t n ∷ (body ++ again) in
       let q = suc (suc (p + length first)) in
-      let stored = op.Store x.width (place_of x.place) ∷ op.Load x.width (place_of x.place) ∷ (compared ++ test) in
+      let stored = op.Store x.width (place_of x.place) ∷ index_read bytes x ∷ (compared ++ test) in
       let lf = length-append first stored in
       let lc = length-append compared test in
       let lb = length-append body again in
-      let round = spots_over p first (op.Store x.width (place_of x.place)) (op.Load x.width (place_of x.place) ∷ (compared ++ test)) fl s in
-      let begin = spots_next (suc (p + length first)) (op.Load x.width (place_of x.place)) (compared ++ test) refl round in
+      let round = spots_over p first (op.Store x.width (place_of x.place)) (index_read bytes x ∷ (compared ++ test)) fl s in
+      let begin = spots_next (suc (p + length first)) (index_read bytes x) (compared ++ test) (index_after bytes x) round in
       let rest = spots_over q compared (op.AheadUnless t n) (body ++ again) (tested_down t n (behind 0 compared) up) begin in
       let r = suc (q + length compared) in
       fits_then p 0 0 first stored (f p) fl (
         tt,
-        (
-          tt,
-          tested_fits compared (body ++ again) t n q c up word (subst Spot (omega (arith, lf, lc, lb)) end)
-              (fits_then r 0 0 body again (fits r (spots_front r body again rest) (subst Spot (omega arith) (spots_first (r + length body) again (spots_back r body again level rest)))) level
-              (next_fits o x by step (length compared + length body + 2) (r + length body) lt k g (subst Spot (omega arith) (spots_first (suc (p + length first)) (op.Load x.width (place_of x.place) ∷ (compared ++ test)) round)))),
-        ),
+        index_fits bytes x (suc (p + length first)) (compared ++ test)
+            (tested_fits compared (body ++ again) t n q c up word (subst Spot (omega (arith, lf, lc, lb)) end)
+            (fits_then r 0 0 body again (fits r (spots_front r body again rest) (subst Spot (omega arith) (spots_first (r + length body) again (spots_back r body again level rest)))) level
+            (next_fits o x by step (length compared + length body + 2) (r + length body) lt k g (subst Spot (omega arith) (spots_first (suc (p + length first)) (index_read bytes x ∷ (compared ++ test)) round))))),
       )

@@ -1,18 +1,20 @@
 -- The code of statements is as it has to be where jumps may lead to each of its places and to its exit.
-use Rattle.std.proofs.Common.{◌≡◌, ℕ, ◌+◌, ◌⊎◌, inl, inr, false, List, [], ◌∷◌, ◌++◌, length, refl, arith}
+use Rattle.std.proofs.Common.{◌≡◌, ℕ, ◌+◌, ◌⊎◌, inl, inr, Bool, true, false, ◌≤◌, List, [], ◌∷◌, ◌++◌, length, refl, sym, subst, ◌∙◌, arith, length-append, append-nil, true≢false}
 use Rattle.word86.specs.declared.width.Width.{Width}
 use Rattle.word86.specs.declared.width.Width.TheVariants as widths
 use Rattle.plm_type.specs.Rest.{Expression, Loop, Count, Statement, Empty, Assign, Evaluate, Return, ReturnValue, Enabling, Disabling, Halting, If, Block, While, Case, Iterate, Leaving, Round, Comparing, Stepping, Adding, Storing, Ending, Statements, End, Then, Returned, Procedure}
 use Rattle.icode.specs.declared.instruction.Instruction.{Instruction}
 use Rattle.icode.specs.declared.instruction.Instruction.TheVariants as op
 use Rattle.icode.specs.Heights.{behind}
-use Rattle.lower.specs.Expressions.{operand_of, place_of, beside, stands_to, test_of, expression_code, targets_code, condition_code}
-use Rattle.lower.specs.Statements.{Kind, OfMain, Called, Giving, Serving, returning, narrowed, within, next_round, are_silent, over, all_of, switching, exit_before, statement_code, statements_code, cases_code}
+use Rattle.lower.specs.LowBytes.{low_code, given_code, returned_code}
+use Rattle.lower.specs.Expressions.{operand_of, place_of, beside, expression_code, targets_code}
+use Rattle.lower.specs.Conditions.{test_of, condition_code, always, compared, related}
+use Rattle.lower.specs.Statements.{Kind, OfMain, Called, Giving, Serving, returning, narrowed, within, next_round, are_silent, over, all_of, switching, exit_before, statement_code, statements_code, cases_code, while_loop, counts_bytes, index_read, stays, all_stay}
 use Rattle.lower.specs.Well.{MayReturn, IsStatement, AreStatements}
-use Rattle.lower.proofs.Heights.{Keeps, expression_keeps, dropped_keeps, targets_keep}
-use Rattle.lower.proofs.Fits.{Fits, Calm, Fitting, AreLevel, level_then, tested_level, choosing_level, switching_level, next_level, fits_then, choosing_fits, one_then_more, while_loop_fits, switching_fits, case_fits, counted_fits}
-use Rattle.lower.proofs.Calm.{expression_calm, dropped_calm, targets_calm, beside_calm, operand_word, condition_calm, bound_word, test_word, beside_up, condition_up}
-use Rattle.lower.proofs.Stmts.{silents_code}
+use Rattle.lower.proofs.Heights.{Keeps, expression_keeps, dropped_keeps, targets_keep, given_keeps, returned_keeps, low_keeps}
+use Rattle.lower.proofs.Fits.{Fits, Calm, Fitting, AreLevel, index_up, level_then, tested_level, choosing_level, switching_level, next_level, Inner, inner_front, inner_back, inner_first, forever_fits, fits_then, choosing_fits, one_then_more, while_loop_fits, switching_fits, case_fits, counted_fits, while_loop_level}
+use Rattle.lower.proofs.Calm.{expression_calm, dropped_calm, targets_calm, given_calm, operand_word, condition_calm, bound_calm, bound_word, test_word, compared_up, condition_up, returned_calm}
+use Rattle.lower.proofs.Stmts.{silents_code, stay_all_loud}
 
 -- ENABLE or HALT stands in it
 abbrev mutual
@@ -55,10 +57,10 @@ module _ (procedures : List Procedure) (around : Kind) where
   mutual
     pub statement_level : (s : Statement) (exit : ℕ) → behind 0 (statement_code procedures around exit s) ≡ 0
     statement_level Empty exit = refl
-    statement_level (Assign ts e) exit = level_then (expression_code procedures e) (targets_code procedures ts) (expression_keeps procedures e 0) (targets_keep procedures ts 0)
+    statement_level (Assign ts e) exit = level_then (given_code procedures ts e) (targets_code procedures ts) (given_keeps procedures ts e 0) (targets_keep procedures ts 0)
     statement_level (Evaluate e) exit = dropped_keeps procedures e 0
     statement_level Return exit = returning_level around
-    statement_level (ReturnValue w e) exit = level_then (expression_code procedures e) (narrowed w ++ op.Leave ∷ []) (expression_keeps procedures e 0) (narrowed_keeps w 0)
+    statement_level (ReturnValue w e) exit = level_then (returned_code procedures w e) (narrowed w ++ op.Leave ∷ []) (returned_keeps procedures w e 0) (narrowed_keeps w 0)
     statement_level Enabling exit = refl
     statement_level Disabling exit = refl
     statement_level Halting exit = refl
@@ -67,20 +69,20 @@ module _ (procedures : List Procedure) (around : Kind) where
         let arm_exit = length (over (are_silent other) otherwise exit) + length otherwise + exit in
         choosing_level (condition_code procedures c) (statements_code procedures around arm_exit arm) otherwise (test_of c) (are_silent other) exit (condition_up procedures c) (statements_level arm arm_exit) (statements_level other exit)
     statement_level (Block ss) exit = statements_level ss exit
-    statement_level (While left c ss) exit =
-        let body = statements_code procedures around 0 ss in
-        let back = op.Back (length (condition_code procedures c) + length body + 2) ∷ [] in
-        tested_level (condition_code procedures c) (body ++ back) (test_of c) (length body + 1 + exit) (condition_up procedures c) (level_then body back (statements_level ss 0) refl)
+    statement_level (While left c ss) exit = while_loop_level (always c) (condition_code procedures c) (test_of c) (statements_code procedures around 0 ss) exit (condition_up procedures c) (statements_level ss 0)
     statement_level (Case e ss) exit = level_then (expression_code procedures e) (switching (cases_code procedures around exit ss) exit) (expression_keeps procedures e 0) (switching_level (cases_code procedures around exit ss) exit (cases_level ss exit))
     statement_level (Iterate a (Count o x bound step ss)) exit =
-        let compared = beside (operand_of bound) (expression_code procedures bound) in
+        let bytes = counts_bytes x bound in
+        let comparison = compared bytes (beside (operand_of bound) (low_code procedures bound)) (beside (operand_of bound) (expression_code procedures bound)) in
         let body = statements_code procedures around 0 ss in
-        let before = length compared + length body + 2 in
+        let before = length comparison + length body + 2 in
         let again = next_round o x (operand_of step) (expression_code procedures step) before in
         let n = length body + length again + exit in
-        let t = stands_to (within o) (operand_of bound) in
-        level_then (expression_code procedures a) (op.Store x.width (place_of x.place) ∷ op.Load x.width (place_of x.place) ∷ (compared ++ (op.AheadUnless t n ∷ (body ++ again)))) (expression_keeps procedures a 0)
-        (tested_level compared (body ++ again) t n (beside_up (within o) (operand_of bound) (expression_code procedures bound) (expression_keeps procedures bound))
+        let t = related bytes (within o) (operand_of bound) in
+        let rest = comparison ++ (op.AheadUnless t n ∷ (body ++ again)) in
+        level_then (returned_code procedures x.width a) (op.Store x.width (place_of x.place) ∷ index_read bytes x ∷ rest) (returned_keeps procedures x.width a 0)
+        (index_up bytes x rest 0
+        ∙ tested_level comparison (body ++ again) t n (compared_up bytes (within o) (operand_of bound) (low_code procedures bound) (expression_code procedures bound) (low_keeps procedures bound) (expression_keeps procedures bound))
         (level_then body again (statements_level ss 0) (next_level o x (operand_of step) (expression_code procedures step) before (expression_keeps procedures step))))
     statement_level Leaving exit = refl
     statement_level (Round l) exit = refl
@@ -128,13 +130,13 @@ module _ (MayCall : ℕ → Type 0) (Enables : Type 0) (Spot : ℕ → Type 0) (
     pub statement_fits : (s : Statement) → IsStatement sizes procedures MayCall around s → (Lets s → Enables) → (exit : ℕ) → F exit (statement_code procedures around exit s)
     statement_fits Empty good lets exit = λ p s end. tt
     statement_fits (Assign ts e) good lets exit = λ p s end.
-        fits_then MayCall Enables (IsServing around) Spot p 0 0 (expression_code procedures e) (targets_code procedures ts) (expression_calm MayCall Enables (IsServing around) Spot sizes procedures e good.1 0 p) (expression_keeps procedures e 0)
-        (targets_calm MayCall Enables (IsServing around) Spot sizes procedures ts good.0 0 (p + length (expression_code procedures e)))
+        fits_then MayCall Enables (IsServing around) Spot p 0 0 (given_code procedures ts e) (targets_code procedures ts) (given_calm MayCall Enables (IsServing around) Spot sizes procedures ts e good.1 0 p) (given_keeps procedures ts e 0)
+        (targets_calm MayCall Enables (IsServing around) Spot sizes procedures ts good.0 0 (p + length (given_code procedures ts e)))
     statement_fits (Evaluate e) good lets exit = λ p s end. dropped_calm MayCall Enables (IsServing around) Spot sizes procedures e good 0 p
     statement_fits Return good lets exit = λ p s end. returning_fits around good p
     statement_fits (ReturnValue w e) good lets exit = λ p s end.
-        fits_then MayCall Enables (IsServing around) Spot p 0 0 (expression_code procedures e) (narrowed w ++ op.Leave ∷ []) (expression_calm MayCall Enables (IsServing around) Spot sizes procedures e good.1 0 p) (expression_keeps procedures e 0)
-        (narrowed_calm w (p + length (expression_code procedures e)))
+        fits_then MayCall Enables (IsServing around) Spot p 0 0 (returned_code procedures w e) (narrowed w ++ op.Leave ∷ []) (returned_calm MayCall Enables (IsServing around) Spot sizes procedures w e good.1 0 p) (returned_keeps procedures w e 0)
+        (narrowed_calm w (p + length (returned_code procedures w e)))
     statement_fits Enabling good lets exit = λ p s end. (lets tt, tt)
     statement_fits Disabling good lets exit = λ p s end. (tt, tt)
     statement_fits Halting good lets exit = λ p s end. (lets tt, tt)
@@ -146,17 +148,20 @@ module _ (MayCall : ℕ → Type 0) (Enables : Type 0) (Spot : ℕ → Type 0) (
         (statements_fit arm good.1 (λ h. lets (inl h)) arm_exit) (statements_fit other good.2 (λ h. lets (inr h)) exit)
     statement_fits (Block ss) good lets exit = statements_fit ss good lets exit
     statement_fits (While left c ss) good lets exit =
-        while_loop_fits MayCall Enables (IsServing around) Spot (condition_code procedures c) (statements_code procedures around 0 ss) (test_of c) exit (condition_calm MayCall Enables (IsServing around) Spot sizes procedures c good.1) (condition_up procedures c)
+        while_loop_fits MayCall Enables (IsServing around) Spot (always c) (condition_code procedures c) (statements_code procedures around 0 ss) (test_of c) exit (condition_calm MayCall Enables (IsServing around) Spot sizes procedures c good.1) (condition_up procedures c)
         (test_word MayCall Enables (IsServing around) Spot sizes procedures c good.1) (statements_level procedures around ss 0) (statements_fit ss good.2 lets 0)
     statement_fits (Case e ss) good lets exit =
         one_then_more MayCall Enables (IsServing around) Spot false (expression_code procedures e) (switching (cases_code procedures around exit ss) exit) exit (λ h. cc) (expression_keeps procedures e 0)
         (calm e (expression_calm MayCall Enables (IsServing around) Spot sizes procedures e good.0 0) 0)
         (switching_fits MayCall Enables (IsServing around) Spot (cases_code procedures around exit ss) exit (cases_level procedures around ss exit) (cases_fit ss good.1 lets exit))
     statement_fits (Iterate a (Count o x bound step ss)) good lets exit =
-        counted_fits MayCall Enables (IsServing around) Spot (expression_code procedures a) (beside (operand_of bound) (expression_code procedures bound)) (statements_code procedures around 0 ss) (expression_code procedures step) o x (operand_of step)
-        (stands_to (within o) (operand_of bound)) exit (expression_calm MayCall Enables (IsServing around) Spot sizes procedures a good.0 0) (expression_keeps procedures a 0)
-        (beside_calm MayCall Enables (IsServing around) Spot (operand_of bound) (expression_code procedures bound) (expression_calm MayCall Enables (IsServing around) Spot sizes procedures bound good.1.1) 0)
-        (beside_up (within o) (operand_of bound) (expression_code procedures bound) (expression_keeps procedures bound)) (bound_word MayCall Enables (IsServing around) Spot sizes procedures (within o) bound good.1.1)
+        let bytes = counts_bytes x bound in
+        counted_fits MayCall Enables (IsServing around) Spot bytes (returned_code procedures x.width a) (compared bytes (beside (operand_of bound) (low_code procedures bound)) (beside (operand_of bound) (expression_code procedures bound)))
+        (statements_code procedures around 0 ss) (expression_code procedures step) o x (operand_of step)
+        (related bytes (within o) (operand_of bound)) exit (returned_calm MayCall Enables (IsServing around) Spot sizes procedures x.width a good.0 0) (returned_keeps procedures x.width a 0)
+        (bound_calm MayCall Enables (IsServing around) Spot sizes procedures bytes bound good.1.1)
+        (compared_up bytes (within o) (operand_of bound) (low_code procedures bound) (expression_code procedures bound) (low_keeps procedures bound) (expression_keeps procedures bound))
+        (bound_word MayCall Enables (IsServing around) Spot sizes procedures bytes (within o) bound good.1.1)
         (statements_level procedures around ss 0) (statements_fit ss good.1.3 lets 0) (operand_word MayCall Enables (IsServing around) Spot sizes procedures step good.1.2) (expression_keeps procedures step)
         (expression_calm MayCall Enables (IsServing around) Spot sizes procedures step good.1.2 0)
     statement_fits Leaving good lets exit = absurd good
@@ -182,3 +187,100 @@ module _ (MayCall : ℕ → Type 0) (Enables : Type 0) (Spot : ℕ → Type 0) (
         let rest = length others + exit in
         case_fits MayCall Enables (IsServing around) Spot (statement_code procedures around (1 + rest) s) others exit (statement_level procedures around s (1 + rest)) (statement_fits s good.0 (λ h. lets (inl h)) (1 + rest)) (cases_fit later good.1 (λ h. lets (inr h)) exit)
     cases_fit (Returned v) good lets exit = absurd good
+
+  -- ---- statements to whose end control never comes: no jump leads there
+
+  endless_fits : (s : Statement) → stays s ≡ true → IsStatement sizes procedures MayCall around s → (Lets s → Enables) → (exit p : ℕ) → Inner MayCall Enables (IsServing around) Spot p (statement_code procedures around exit s)
+      → Fits MayCall Enables (IsServing around) Spot p 0 (statement_code procedures around exit s)
+  endless_fits (ReturnValue w e) h good lets exit p s =
+      fits_then MayCall Enables (IsServing around) Spot p 0 0 (returned_code procedures w e) (narrowed w ++ op.Leave ∷ []) (returned_calm MayCall Enables (IsServing around) Spot sizes procedures w e good.1 0 p) (returned_keeps procedures w e 0)
+      (narrowed_calm w (p + length (returned_code procedures w e)))
+  endless_fits (While left c ss) h good lets exit p s =
+      let body = statements_code procedures around 0 ss in
+      let code = λ (b : Bool). while_loop b (condition_code procedures c) (test_of c) body exit in
+      subst (λ b. Fits MayCall Enables (IsServing around) Spot p 0 (code b)) (sym h)
+      (forever_fits MayCall Enables (IsServing around) Spot body p (statements_level procedures around ss 0) (statements_fit ss good.2 lets 0) (subst (λ b. Inner MayCall Enables (IsServing around) Spot p (code b)) h s))
+  endless_fits Empty h good lets exit p s = absurd (true≢false (sym h))
+  endless_fits (Assign ts e) h good lets exit p s = absurd (true≢false (sym h))
+  endless_fits (Evaluate e) h good lets exit p s = absurd (true≢false (sym h))
+  endless_fits Return h good lets exit p s = absurd (true≢false (sym h))
+  endless_fits Enabling h good lets exit p s = absurd (true≢false (sym h))
+  endless_fits Disabling h good lets exit p s = absurd (true≢false (sym h))
+  endless_fits Halting h good lets exit p s = absurd (true≢false (sym h))
+  endless_fits (If c arm other) h good lets exit p s = absurd (true≢false (sym h))
+  endless_fits (Block ss) h good lets exit p s = absurd (true≢false (sym h))
+  endless_fits (Case e ss) h good lets exit p s = absurd (true≢false (sym h))
+  endless_fits (Iterate e l) h good lets exit p s = absurd (true≢false (sym h))
+  endless_fits Leaving h good lets exit p s = absurd (true≢false (sym h))
+  endless_fits (Round l) h good lets exit p s = absurd (true≢false (sym h))
+  endless_fits (Comparing i e l) h good lets exit p s = absurd (true≢false (sym h))
+  endless_fits (Stepping e l) h good lets exit p s = absurd (true≢false (sym h))
+  endless_fits (Adding i t l) h good lets exit p s = absurd (true≢false (sym h))
+  endless_fits (Storing t b l) h good lets exit p s = absurd (true≢false (sym h))
+  endless_fits (Ending b l) h good lets exit p s = absurd (true≢false (sym h))
+
+  endless_some : (s : Statement) → stays s ≡ true → (exit : ℕ) → 1 ≤ length (statement_code procedures around exit s)
+  endless_some (ReturnValue w e) h exit =
+      let l = length-append (returned_code procedures w e) (narrowed w ++ op.Leave ∷ []) in
+      let m = length-append (narrowed w) (op.Leave ∷ []) in
+      omega (arith, l, m)
+  endless_some (While left c ss) h exit =
+      let body = statements_code procedures around 0 ss in
+      let l = length-append body (op.Back (length body + 1) ∷ []) in
+      subst (λ b. 1 ≤ length (while_loop b (condition_code procedures c) (test_of c) body exit)) (sym h) (omega (arith, l))
+  endless_some Empty h exit = absurd (true≢false (sym h))
+  endless_some (Assign ts e) h exit = absurd (true≢false (sym h))
+  endless_some (Evaluate e) h exit = absurd (true≢false (sym h))
+  endless_some Return h exit = absurd (true≢false (sym h))
+  endless_some Enabling h exit = absurd (true≢false (sym h))
+  endless_some Disabling h exit = absurd (true≢false (sym h))
+  endless_some Halting h exit = absurd (true≢false (sym h))
+  endless_some (If c arm other) h exit = absurd (true≢false (sym h))
+  endless_some (Block ss) h exit = absurd (true≢false (sym h))
+  endless_some (Case e ss) h exit = absurd (true≢false (sym h))
+  endless_some (Iterate e l) h exit = absurd (true≢false (sym h))
+  endless_some Leaving h exit = absurd (true≢false (sym h))
+  endless_some (Round l) h exit = absurd (true≢false (sym h))
+  endless_some (Comparing i e l) h exit = absurd (true≢false (sym h))
+  endless_some (Stepping e l) h exit = absurd (true≢false (sym h))
+  endless_some (Adding i s l) h exit = absurd (true≢false (sym h))
+  endless_some (Storing s b l) h exit = absurd (true≢false (sym h))
+  endless_some (Ending b l) h exit = absurd (true≢false (sym h))
+
+  all_endless_some : (ss : Statements) → all_stay ss ≡ true → (exit : ℕ) → 1 ≤ length (statements_code procedures around exit ss)
+  all_endless_some End h exit = absurd (true≢false (sym h))
+  all_endless_some (Returned v) h exit = absurd (true≢false (sym h))
+  all_endless_some (Then s End) h exit =
+      let l = length-append (statement_code procedures around exit s) [] in
+      let m = endless_some s h exit in
+      omega (arith, l, m)
+  all_endless_some (Then s (Then t rest)) h exit =
+      let more = Then t rest in
+      let l = length-append (statement_code procedures around (exit_before (are_silent more) exit) s) (statements_code procedures around exit more) in
+      let m = all_endless_some (Then t rest) h exit in
+      omega (arith, l, m)
+  all_endless_some (Then s (Returned v)) h exit = absurd (true≢false (sym h))
+
+  pub all_endless_fit : (ss : Statements) → all_stay ss ≡ true → AreStatements sizes procedures MayCall around ss → (Let ss → Enables) → (exit p : ℕ) → Inner MayCall Enables (IsServing around) Spot p (statements_code procedures around exit ss)
+      → Fits MayCall Enables (IsServing around) Spot p 0 (statements_code procedures around exit ss)
+  all_endless_fit End h good lets exit p s = absurd (true≢false (sym h))
+  all_endless_fit (Returned v) h good lets exit p s = absurd (true≢false (sym h))
+  all_endless_fit (Then t End) h good lets exit p s =
+      let code = statement_code procedures around exit t in
+      let none = append-nil code in
+      subst (λ c. Fits MayCall Enables (IsServing around) Spot p 0 c) (sym none) (endless_fits t h good.0 (λ l. lets (inl l)) exit p (subst (λ c. Inner MayCall Enables (IsServing around) Spot p c) none s))
+  all_endless_fit (Then t (Then u rest)) h good lets exit p s =
+      let more = Then u rest in
+      let code = statement_code procedures around 0 t in
+      let others = statements_code procedures around exit more in
+      let loud = stay_all_loud more h in
+      let whole = λ (b : Bool). statement_code procedures around (exit_before b exit) t ++ others in
+      let some = all_endless_some more h exit in
+      let level = statement_level procedures around t 0 in
+      let inner : Inner MayCall Enables (IsServing around) Spot p (code ++ others) = subst (λ b. Inner MayCall Enables (IsServing around) Spot p (whole b)) loud s in
+      let rest_inner = inner_back MayCall Enables (IsServing around) Spot p code others level inner in
+      subst (λ b. Fits MayCall Enables (IsServing around) Spot p 0 (whole b)) (sym loud)
+      (fits_then MayCall Enables (IsServing around) Spot p 0 0 code others
+      (statement_fits t good.0 (λ l. lets (inl l)) 0 p (inner_front MayCall Enables (IsServing around) Spot p code others some inner) (subst Spot (omega arith) (inner_first MayCall Enables (IsServing around) Spot (p + length code) others some rest_inner)))
+      level (all_endless_fit (Then u rest) h good.1 (λ l. lets (inr l)) exit (p + length code) rest_inner))
+  all_endless_fit (Then t (Returned v)) h good lets exit p s = absurd (true≢false (sym h))

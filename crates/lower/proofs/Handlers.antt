@@ -1,5 +1,5 @@
 -- What an interrupt enters: the procedure that serves its vector.
-use Rattle.std.proofs.Common.{◌≡◌, ℕ, ◌+◌, Bool, true, false, true≢false, nat_eq, cond, List, [], ◌∷◌, map, position, Option, Some, None, refl, sym, ap, ◌∙◌, slice_get, get_or}
+use Rattle.std.proofs.Common.{◌≡◌, ℕ, ◌+◌, Bool, true, false, true≢false, nat_eq, cond, List, [], ◌∷◌, map, position, Option, Some, None, refl, sym, ap, ◌∙◌, get_or}
 use Rattle.std.specs.Option.{option_map_or}
 use Rattle.std.specs.List.{position_from}
 use Rattle.std.proofs.lemmas.Iterator.Adapters.{position_from-zero}

@@ -1,11 +1,11 @@
--- How many statements there are up to the last one that has code.
+-- How many statements there are up to the last one that has code, and what the last one decides.
 use Rattle.std.proofs.Common.{◌≡◌, ℕ, zero, suc, ◌<◌, true, false, ◌&&◌, List, [], ◌∷◌, length, drop, get_or, nat_le, refl, ap, sym, ◌∙◌, arith}
 use Rattle.std.proofs.Math.Dec.{leb-zero, leb-suc-zero, leb-suc-suc}
 use Rattle.std.proofs.lemmas.Bool.{and_parts, and_left, and_right}
 use Rattle.std.specs.Global.{Box}
 use Rattle.plm_type.specs.declared.program.Statement.{Statement}
 use Rattle.plm_type.specs.View.{statement_of, statements_of}
-use Rattle.lower.specs.Statements.{is_silent, are_silent}
+use Rattle.lower.specs.Statements.{is_silent, are_silent, stays, all_stay}
 
 -- what comes after nothing but silent statements is silent
 pub silent_behind : (ss : List (Box Statement)) (k : ℕ) → are_silent (statements_of ss) ≡ true → are_silent (statements_of (drop k ss)) ≡ true
@@ -32,3 +32,11 @@ last (s ∷ ss) zero d lt here behind zero = leb-suc-zero 0 ∙ sym (and_left (i
 last (s ∷ ss) zero d lt here behind (suc k) = leb-suc-suc 0 k ∙ none ss k behind
 last (s ∷ ss) (suc m) d lt here behind zero = leb-suc-zero (suc m) ∙ sym (and_right (is_silent (statement_of s.value)) (are_silent (statements_of ss)) (sym (last ss m d (omega (arith, lt)) here behind zero) ∙ leb-suc-zero m))
 last (s ∷ ss) (suc m) d lt here behind (suc k) = leb-suc-suc (suc m) k ∙ last ss m d (omega (arith, lt)) here behind k
+
+-- whether control comes to the end of statements is said of the last one
+pub last_stays : (k : ℕ) (ss : List (Box Statement)) (s : Box Statement) → length ss ≡ suc k → s ≡ get_or ss k s → stays (statement_of s.value) ≡ all_stay (statements_of ss)
+last_stays k [] s l is = absurd (omega (arith, l))
+last_stays zero (x ∷ []) s l is = ap (λ y. stays (statement_of y.value)) is
+last_stays zero (x ∷ y ∷ ss) s l is = absurd (omega (arith, l))
+last_stays (suc k) (x ∷ []) s l is = absurd (omega (arith, l))
+last_stays (suc k) (x ∷ y ∷ ss) s l is = last_stays k (y ∷ ss) s (omega (arith, l)) is

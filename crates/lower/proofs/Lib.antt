@@ -6,6 +6,8 @@ pub mod Faultless
 pub mod Sums
 pub mod Memory
 pub mod Values
+pub mod Nodes
+pub mod Folds
 pub mod Exprs
 pub mod Terms
 pub mod Leads
@@ -25,6 +27,7 @@ pub mod Typed
 pub mod Texts
 pub mod Allowed
 pub mod Whole
+pub mod Known
 pub mod Trees
 pub mod Outermost
 pub mod LastCode
@@ -35,6 +38,9 @@ pub mod Integers
 pub mod Counts
 pub mod Peaks
 pub mod Lows
+pub mod LowBytes
+pub mod LowTargets
+pub mod LowTrees
 pub mod Modules
 pub mod Procedures
 pub mod Handlers

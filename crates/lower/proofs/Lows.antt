@@ -1,5 +1,5 @@
--- The peak of a tree's code is at most the leaves of the resolved tree that it comes from.
-use Rattle.std.proofs.Common.{◌≡◌, ℕ, zero, suc, ◌+◌, ◌≤◌, Bool, true, false, List, [], ◌∷◌, Option, Some, None, map, refl, ap, arith, slice_get}
+-- The peak of a tree's code is below the leaves of the resolved tree that it comes from, where it has any.
+use Rattle.std.proofs.Common.{◌≡◌, ℕ, zero, suc, ◌+◌, ◌-◌, ◌≤◌, Bool, true, false, List, [], ◌∷◌, Option, Some, None, map, refl, ap, arith, slice_get}
 use Rattle.std.proofs.lemmas.Bool.{cond_both}
 use Rattle.std.proofs.lemmas.Option.{none-some}
 use Rattle.std.specs.Prelude.{cond, max}
@@ -292,7 +292,7 @@ module _ (variables : List Variable) (procedures : List ProcedureR) (objects : L
   wanted_peak : (t : Option ScalarType) (d : ExpressionR) → suc (peak (wanted_tree variables procedures objects module_index t d)) ≤ expression_leaves d
   wanted_peak t d = below (turned t d) (tree d) (expression_leaves d) (tree_peak d)
 
-  assignment_peak : (xs : ReferencesR) (t : Option ScalarType) (d : ExpressionR) → statement_peak (assignment (target_trees variables procedures objects module_index xs) (wanted_tree variables procedures objects module_index t d)) ≤ targets_leaves xs + expression_leaves d
+  assignment_peak : (xs : ReferencesR) (t : Option ScalarType) (d : ExpressionR) → statement_peak (assignment (target_trees variables procedures objects module_index xs) (wanted_tree variables procedures objects module_index t d)) ≤ (targets_leaves xs + expression_leaves d) - 1
   assignment_peak no_references t d = let h = wanted_peak t d in omega (arith, h)
   assignment_peak (references x xs) t d =
       let h = targets_highest (target_of variables procedures objects module_index x) (target_trees variables procedures objects module_index xs) in
@@ -300,7 +300,7 @@ module _ (variables : List Variable) (procedures : List ProcedureR) (objects : L
       let j = wanted_peak t d in
       omega (arith, h, i, j)
 
-  called_peak : (p : Position) (x : ReferenceR') → peak (called variables procedures objects module_index p x) ≤ reference_leaves x
+  called_peak : (p : Position) (x : ReferenceR') → peak (called variables procedures objects module_index p x) ≤ reference_leaves x - 1
   called_peak p (Use q (binding.Procedure n) es s) = let h = given_peak es (parameters_wanted variables (slice_get procedures n)) in omega (arith, h)
   called_peak p (Use q (binding.Variable v) es s) = omega arith
   called_peak p (Use q (binding.Builtin b) es s) = omega arith
@@ -321,7 +321,7 @@ module _ (variables : List Variable) (procedures : List ProcedureR) (objects : L
       chosen_peak (is_integer t) (integer_step module_index p (signed_step e)).tree (tree e) (expression_leaves e) (integer_step_peak p (signed_step e) (expression_leaves e)) (omega (arith, h))
 
   mutual
-    statement_low : (around : Around) (s : StatementR) → statement_peak (statement_for variables procedures objects module_index around s) ≤ most_in s
+    statement_low : (around : Around) (s : StatementR) → statement_peak (statement_for variables procedures objects module_index around s) ≤ most_in s - 1
     statement_low around (EmptyR p) = omega arith
     statement_low around (AssignR xs e) = assignment_peak xs (wanted_among (target_types variables procedures objects module_index xs)) e
     statement_low around (CallR p x) = called_peak p x
@@ -343,21 +343,21 @@ module _ (variables : List Variable) (procedures : List ProcedureR) (objects : L
         let k = statements_low around ss in
         omega (arith, h, i, j, k)
 
-    pub statements_low : (around : Around) (ss : StatementsR) → statements_peak (statements_for variables procedures objects module_index around ss) ≤ most_of ss
+    pub statements_low : (around : Around) (ss : StatementsR) → statements_peak (statements_for variables procedures objects module_index around ss) ≤ most_of ss - 1
     statements_low around no_statements = omega arith
     statements_low around (statements s ss) = let h = statement_low around s in let i = statements_low around ss in omega (arith, h, i)
 
 -- ---- a program's procedures
 
 module _ (variables : List Variable) (declared : List ProcedureR) (sizes : List ℕ) where
-  body_low : (p : ProcedureR) → statements_peak (body_for variables declared sizes p) ≤ most_of p.body
+  body_low : (p : ProcedureR) → statements_peak (body_for variables declared sizes p) ≤ most_of p.body - 1
   body_low p = cases (is_external_linkage p.linkage)
     where
-      cases : (b : Bool) → statements_peak (cond b End (statements_for variables declared sizes p.module (stands.Procedure p.returned) p.body)) ≤ most_of p.body
+      cases : (b : Bool) → statements_peak (cond b End (statements_for variables declared sizes p.module (stands.Procedure p.returned) p.body)) ≤ most_of p.body - 1
       cases true = omega arith
       cases false = statements_low variables declared sizes p.module (stands.Procedure p.returned) p.body
 
-  pub procedure_low : (ps : List ProcedureR) (q : ℕ) (x : Procedure) → slice_get (map (procedure_for variables declared sizes) ps) q ≡ Some x → statements_peak x.body ≤ procedures_most ps
+  pub procedure_low : (ps : List ProcedureR) (q : ℕ) (x : Procedure) → slice_get (map (procedure_for variables declared sizes) ps) q ≡ Some x → statements_peak x.body ≤ procedures_most ps - 1
   procedure_low [] q x got = absurd (none-some x got)
   procedure_low (p ∷ ps) zero x got =
       let h = body_low p in
@@ -368,17 +368,17 @@ module _ (variables : List Variable) (declared : List ProcedureR) (sizes : List 
 -- ---- programs
 
 module _ (names : Names) where
-  procedure_code_low : (q : ℕ) (o : Option Procedure) → slice_get (procedures_of names) q ≡ o → (s : Bool) (k : ℕ) → height (procedure_code (procedures_of names) s o) k ≤ most_leaves names
-  procedure_code_low q None got s k = low (most_leaves names) 0 0 [] (omega arith, refl) k
+  procedure_code_low : (q : ℕ) (o : Option Procedure) → slice_get (procedures_of names) q ≡ o → (s : Bool) (k : ℕ) → height (procedure_code (procedures_of names) s o) k ≤ most_leaves names - 1
+  procedure_code_low q None got s k = low (most_leaves names - 1) 0 0 [] (omega arith, refl) k
   procedure_code_low q (Some x) got s k =
       let h = procedure_low names.variables.items (declared_procedures names) (sizes_of names) (declared_procedures names) q x got in
-      routine_low (procedures_of names) (kind_of s (are_giving x.body)) x.body (most_leaves names) (omega (arith, h)) k
+      routine_low (procedures_of names) (kind_of s (are_giving x.body)) x.body (most_leaves names - 1) (omega (arith, h)) k
 
-  pub code_low : (r : Routine) (k : ℕ) → height (program_code names r) k ≤ most_leaves names
+  pub code_low : (r : Routine) (k : ℕ) → height (program_code names r) k ≤ most_leaves names - 1
   code_low routine.Main k =
       let m = main_of names.main in
       let h = statements_low names.variables.items (declared_procedures names) (sizes_of names) m.module stands.Main m.statements in
-      routine_low (procedures_of names) OfMain (main_tree names) (most_leaves names) (omega (arith, h)) k
+      routine_low (procedures_of names) OfMain (main_tree names) (most_leaves names - 1) (omega (arith, h)) k
   code_low (routine.Procedure q) k = procedure_code_low q (slice_get (procedures_of names) q) refl (serves (vectors_of names) q) k
-  code_low routine.Unserved k = low (most_leaves names) 0 0 (Finish ∷ []) (omega arith, (omega arith, refl)) k
-  code_low routine.Nowhere k = low (most_leaves names) 0 0 [] (omega arith, refl) k
+  code_low routine.Unserved k = low (most_leaves names - 1) 0 0 (Finish ∷ []) (omega arith, (omega arith, refl)) k
+  code_low routine.Nowhere k = low (most_leaves names - 1) 0 0 [] (omega arith, refl) k

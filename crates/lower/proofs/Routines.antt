@@ -1,5 +1,5 @@
 -- The code of each routine of a well-formed program, and what it is by that.
-use Rattle.std.proofs.Common.{◌≡◌, ℕ, zero, suc, ◌+◌, ◌-◌, ◌<◌, ◌≤◌, Bool, true, false, List, [], ◌∷◌, ◌++◌, length, Option, Some, None, refl, sym, ap, ◌∙◌, subst, arith, slice_get, length-append, zero-add, suc-add, add-one}
+use Rattle.std.proofs.Common.{◌≡◌, ℕ, zero, suc, ◌+◌, ◌-◌, ◌<◌, ◌≤◌, Bool, true, false, List, [], ◌∷◌, ◌++◌, length, Option, Some, None, refl, sym, ap, ◌∙◌, subst, arith, slice_get, length-append, append-nil, zero-add, suc-add, add-one}
 use Rattle.std.specs.Prelude.{take, drop, Contains, option_map}
 use Rattle.std.proofs.lemmas.List.{take-append-le}
 use Rattle.std.proofs.Math.Seq.{take-length}
@@ -15,13 +15,13 @@ use Rattle.icode.specs.declared.code.Routine.TheVariants as routine
 use Rattle.icode.specs.Heights.{after, behind, height, target, HasHeights}
 use Rattle.icode.specs.Made.{constant_in, cases_of, is_case, IsMade}
 use Rattle.lower.specs.Expressions.{gives, are_giving}
-use Rattle.lower.specs.Statements.{Kind, OfMain, Called, Giving, Serving, ending, statements_code, routine_code}
+use Rattle.lower.specs.Statements.{Kind, OfMain, Called, Giving, Serving, ending, ended_by, all_stay, statements_code, routine_code}
 use Rattle.lower.specs.Lowering.{kind_of, serves, procedure_code, code}
 use Rattle.lower.specs.Well.{AreStatements}
 use Rattle.lower.specs.Tracking.{IsProgram}
 use Rattle.lower.proofs.Ordered.{statements_all}
-use Rattle.lower.proofs.Fits.{Fit, Fits, Spots, fit_at, fits_then}
-use Rattle.lower.proofs.Fitting.{Let, IsServing, statements_level, statements_fit}
+use Rattle.lower.proofs.Fits.{Fit, Fits, Inner, Spots, fit_at, fits_then}
+use Rattle.lower.proofs.Fitting.{Let, IsServing, statements_level, statements_fit, all_endless_fit}
 
 -- where jumps may lead in the code of a routine
 abbrev pub Lands : List Instruction → ℕ → Type 0
@@ -49,6 +49,7 @@ module _ (MayCall : ℕ → Type 0) (Enables Finishes : Type 0) where
     jump_fits (op.AheadUnless c n) p h t more f e = (f.0, subst Spot (same_Some (p + 1 + n) t e) f.1)
     jump_fits (op.Back n) p h t more f e = (f.0, subst Spot (same_Some (p + 1 - n) t e) f.1)
     jump_fits (op.BackUnless c n) p h t more f e = (f.0, subst Spot (same_Some (p + 1 - n) t e) f.1)
+    jump_fits (op.Next w y s n) p h t more f e = (f.0, subst Spot (same_Some (p + 1 - n) t e) f.1)
     jump_fits (op.Switch n) p h t more f e = (f.0, subst Spot (same_Some (p + 1 + n) t e) f.1)
     jump_fits (op.Case n) p h t more f e = (f.0, subst Spot (same_Some (p + 1 + n) t e) f.1)
     jump_fits _ p h t more f e = absurd (none-some t e)
@@ -58,6 +59,7 @@ module _ (MayCall : ℕ → Type 0) (Enables Finishes : Type 0) where
     constant_fits (op.BinaryConstant o w k) p h more f = f
     constant_fits (op.AheadUnless t n) p h more f = f.2
     constant_fits (op.BackUnless t n) p h more f = f.2
+    constant_fits (op.Next w y s n) p h more f = f.2
     constant_fits _ p h more f = omega arith
 
     cases_fit : (x : Instruction) (p h j : ℕ) (more : List Instruction) → Fit MayCall Enables Finishes Spot p h x more → j < cases_of x → is_case (slice_get more j) ≡ true
@@ -122,14 +124,22 @@ module _ (MayCall : ℕ → Type 0) (Enables : Type 0) (sizes : List ℕ) (proce
 
   pub routine_fits : (around : Kind) (ss : Statements) → AreStatements sizes procedures MayCall around ss → (Let ss → Enables) → (IsMain around → Enables)
       → Fits MayCall Enables (IsServing around) (Lands (routine_code procedures around ss)) 0 0 (routine_code procedures around ss)
-  routine_fits around ss good lets halts =
-      let body = statements_code procedures around 0 ss in
-      let all = routine_code procedures around ss in
-      let level = statements_level procedures around ss 0 in
-      let spots = whole_spots around body (ending around) (some_ending around) in
-      let end : Lands all (0 + length body) = spots (length body) (omega arith) (subst (λ l. behind 0 l ≡ 0) (sym (take-length body)) level) in
-      fits_then MayCall Enables (IsServing around) (Lands all) 0 0 0 body (ending around) (statements_fit MayCall Enables (Lands all) sizes procedures around ss good lets 0 0 spots (subst (Lands all) (omega arith) end)) level
-      (ending_fits around halts all (0 + length body) end)
+  routine_fits around ss good lets halts = by (all_stay ss) refl
+    where
+      body : List Instruction
+      body = statements_code procedures around 0 ss
+
+      by : (b : Bool) → all_stay ss ≡ b → Fits MayCall Enables (IsServing around) (Lands (body ++ ended_by b around)) 0 0 (body ++ ended_by b around)
+      by true is =
+          let inner : Inner MayCall Enables (IsServing around) (Lands body) 0 body = λ k lt e. subst (Lands body) (omega arith) (e, lt) in
+          subst (λ c. Fits MayCall Enables (IsServing around) (Lands c) 0 0 c) (sym (append-nil body)) (all_endless_fit MayCall Enables (Lands body) sizes procedures around ss is good lets 0 0 inner)
+      by false is =
+          let all = body ++ ending around in
+          let level = statements_level procedures around ss 0 in
+          let spots = whole_spots around body (ending around) (some_ending around) in
+          let end : Lands all (0 + length body) = spots (length body) (omega arith) (subst (λ l. behind 0 l ≡ 0) (sym (take-length body)) level) in
+          fits_then MayCall Enables (IsServing around) (Lands all) 0 0 0 body (ending around) (statements_fit MayCall Enables (Lands all) sizes procedures around ss good lets 0 0 spots (subst (Lands all) (omega arith) end)) level
+          (ending_fits around halts all (0 + length body) end)
 
 -- ---- a program's code
 

@@ -74,6 +74,21 @@ module _ (x : Setting) where
   up m zero f le r q i e h = tt
   up m (suc n) f le r q i e h = (suc h.0, h.1, (q, e, h.2), ⊎_elim (λ b. inl b) (λ p. inr (more f h.0 le (T n) h.1 (X i) p)) h.3, omega (arith, h.4))
 
+  freed : (f g j : ℕ) → g ≤ 2 → (A : ℕ → Rest → Context → Type 0) (r : Rest) (a : Action Access Context) → P A g j r a → P A f (suc j) r a
+  freed f g zero le A r (Silent i) h = (h.0, omega (arith, h.1, le), h.2)
+  freed f g (suc j) le A r (Silent i) h = h
+  freed f g j le A r (Touch a k) h = h
+  freed f g j le A r (Enable i) h = h
+  freed f g j le A r (Disable i) h = h
+  freed f g j le A r (Halt i) h = h
+  freed f g j le A r Over h = h
+  freed f g j le A r (Bad m l) h = h
+
+  -- the rest makes a silent step, with which the first instruction goes
+  pub up_free : (m n f g : ℕ) → g ≤ 2 → (r q : Rest) (i : Context) → N r ≡ Silent q → S m n g q i → S (suc m) n f r i
+  up_free m zero f g le r q i e h = tt
+  up_free m (suc n) f g le r q i e h = (suc h.0, h.1, (q, e, h.2), ⊎_elim (λ b. inl b) (λ p. inr (freed f g h.0 le (T n) h.1 (X i) p)) h.3, omega (arith, h.4))
+
   at : (m n f : ℕ) (r : Rest) (i : Context) (a : Action Access Context) → X i ≡ a → P (T n) f zero r a → S m (suc n) f r i
   at m n f r i a e h = (zero, r, refl, inr (subst (λ y. P (T n) f zero r y) (sym e) h), omega arith)
 
@@ -100,6 +115,9 @@ module _ (x : Setting) where
   pub touches : (m n f : ℕ) (a : Access) (r : Rest) (q : ℕ → Rest) (i : Context) (k : ℕ → Context) → N r ≡ Touch a q → X i ≡ Touch a k → ((v : ℕ) → v < answers a → T n 2 (q v) (k v)) → S m n f r i
   touches m zero f a r q i k u e h = tt
   touches m (suc n) f a r q i k u e h = at m n f r i (Touch a k) e (q, u, λ v lt. less n 2 (q v) (k v) (h v lt))
+
+  pub touches_more : (m n f : ℕ) (a : Access) (r : Rest) (q : ℕ → Rest) (i : Context) (k : ℕ → Context) → N r ≡ Touch a q → X i ≡ Touch a k → ((v : ℕ) → v < answers a → T n 2 (q v) (k v)) → S m (suc n) f r i
+  touches_more m n f a r q i k u e h = at m n f r i (Touch a k) e (q, u, h)
 
   pub enables : (m n f : ℕ) (r q : Rest) (i d : Context) → N r ≡ Enable q → X i ≡ Enable d → T n 2 q d → S m n f r i
   enables m zero f r q i d u e h = tt

@@ -1,12 +1,12 @@
 -- The code of statements does what their rest does.
-use Rattle.std.proofs.lemmas.Bool.{and_parts, ltb-true, ltb-false}
-use Rattle.std.proofs.Common.{◌≡◌, ℕ, zero, suc, ◌+◌, ◌-◌, ◌%◌, ◌<◌, ◌≤◌, Bool, true, false, List, [], ◌∷◌, ◌++◌, length, Some, refl, sym, ap, ◌∙◌, subst, arith, slice_get, length-append, true≢false}
+use Rattle.std.proofs.lemmas.Bool.{and_parts, and_left, and_right, ltb-true, ltb-false}
+use Rattle.std.proofs.Common.{◌≡◌, ℕ, zero, suc, ◌+◌, ◌-◌, ◌*◌, ◌/◌, ◌%◌, ◌<◌, ◌≤◌, Bool, true, false, List, [], ◌∷◌, ◌++◌, length, Some, refl, sym, ap, ◌∙◌, subst, arith, slice_get, length-append, true≢false}
 use Rattle.std.specs.Prelude.{if◌then◌else◌, nat_lt, ◌&&◌}
 use Rattle.word86.specs.declared.width.Width.{Width}
 use Rattle.word86.specs.declared.width.Width.TheVariants as widths
 use Rattle.word86.specs.declared.operation.UnaryOperation.TheVariants as unary
 use Rattle.word86.specs.declared.operation.BinaryOperation.TheVariants as binary
-use Rattle.word86.specs.Access.{Read, Write, values}
+use Rattle.word86.specs.Access.{Where, Read, Write, values}
 use Rattle.word86.specs.Action.{Silent, Touch}
 use Rattle.word86.specs.Arithmetic.{low}
 use Rattle.plm_type.specs.declared.program.Counting.{Counting}
@@ -15,24 +15,33 @@ use Rattle.plm_type.specs.Rest.{Scalar, Expression, Constant, Plain, Variable, L
 use Rattle.plm_type.specs.Next.{value_of, is_odd, behind, evaluated, leaves}
 use Rattle.icode.specs.declared.instruction.Instruction.{Instruction}
 use Rattle.icode.specs.declared.instruction.Instruction.TheVariants as op
+use Rattle.icode.specs.declared.instruction.Relation.{Relation}
 use Rattle.icode.specs.declared.instruction.Relation.TheVariants as relation
+use Rattle.icode.specs.declared.instruction.LowByte.TheVariants as lows
+use Rattle.icode.specs.declared.instruction.High.TheVariants as highs
 use Rattle.icode.specs.declared.instruction.Test.TheVariants as test
 use Rattle.icode.specs.declared.code.Routine.{Routine}
 use Rattle.icode.specs.declared.code.Word.{Word}
 use Rattle.icode.specs.declared.code.Word.TheVariants as words
-use Rattle.icode.specs.Machine.{Context, At, stored, loaded, switched}
-use Rattle.lower.specs.Expressions.{Operand, Number, Name, Computed, operand_of, place_of, beside, stands_to, test_of, expression_code, target_code, targets_code, calling, condition_code, are_giving}
-use Rattle.lower.specs.Statements.{Kind, OfMain, Called, Giving, Serving, returning, narrowed, within, left_in, left_from, next_by_number, add_pushed, next_round, is_silent, are_silent, over, choosing, all_of, entries, switching, exit_before, statement_code, statements_code, cases_code}
+use Rattle.icode.specs.Machine.{Context, At, stands, stored, with_low, loaded, switched}
+use Rattle.lower.proofs.LowBytes.{HasLow, fits_small, low_sim}
+use Rattle.lower.specs.Expressions.{folded, Operand, Number, Name, Computed, operand_of, place_of, beside, expression_code, target_code, targets_code, calling, are_giving}
+use Rattle.lower.specs.Statements.{Kind, OfMain, Called, Giving, Serving, returning, narrowed, within, next_with_sign, next_by_number, add_pushed, next_round, is_silent, are_silent, over, choosing, all_of, entries, switching, exit_before, statement_code, statements_code, cases_code, ending, while_loop, counts_bytes, index_read, stays, all_stay, ended_by}
+use Rattle.lower.specs.LowBytes.{given_code, returned_code, is_byte, is_narrow, low_code, low_load}
+use Rattle.lower.specs.Conditions.{test_of, condition_code, always, compared, related}
 use Rattle.lower.specs.Well.{StepIs, Lies, IsExpression, AreTargets, MayReturn, MayReturnValue, IsStatement, IsLoop, AreStatements}
 use Rattle.lower.proofs.Setting.{Setting}
-use Rattle.lower.proofs.Sim.{N, X, S, fewer, eased, then_, up, down, down_more, both, both_more, touches, enables, disables, halts}
-use Rattle.lower.proofs.Holes.{IsBody, in_assign, in_evaluate, in_return, in_if, in_while, in_case, in_iterate, in_comparing, in_stepping, in_only, in_also, acts, HasAt, has_front, has_back}
-use Rattle.lower.proofs.Sums.{left_sum, named_up, computed_up, pushed_sum}
+use Rattle.lower.proofs.Sim.{N, X, T, S, fewer, eased, then_, up, up_free, down, down_more, both, both_more, touches, touches_more, enables, disables, halts}
+use Rattle.lower.proofs.Holes.{IsHole, IsBody, in_assign, in_evaluate, in_return, in_if, in_while, in_case, in_iterate, in_comparing, in_stepping, in_only, in_also, acts, HasAt, has_front, has_back}
+use Rattle.lower.proofs.Sums.{up_sum, down_sum, named_up, computed_up, counted_sum}
 use Rattle.lower.proofs.Memory.{found_plain}
 use Rattle.lower.proofs.Values.{low_word}
-use Rattle.lower.proofs.Exprs.{IsOperand, operand_is, Left, ProcedureRuns, moved_to, has_at, rise, soon, push_then}
+use Rattle.lower.proofs.Nodes.{nodes, all_nodes, target_nodes, targets_nodes}
+use Rattle.lower.proofs.Folds.{folded_small, folds}
+use Rattle.lower.proofs.Exprs.{IsOperand, operand_is, Left, ProcedureRuns, moved_to, has_at, rise_in, rise, soon, push_then}
 use Rattle.lower.proofs.Terms.{not_value, expression_sim, call_sim, target_sim}
-use Rattle.lower.proofs.Tests.{condition_sim, bound_sim}
+use Rattle.lower.proofs.LowTargets.{AllGet, given_sim}
+use Rattle.lower.proofs.Tests.{Holds, condition_sim, bound_sim}
 use Rattle.lower.proofs.Fits.{entries_length}
 use Rattle.lower.proofs.Leads.{lead, leads}
 
@@ -81,6 +90,36 @@ low_twice widths.Word v = omega arith
 behind_if : (b : Bool) (s t later : Statements) → behind (if b then s else t) later ≡ (if b then behind s later else behind t later)
 behind_if true s t later = refl
 behind_if false s t later = refl
+
+-- statements to whose end control never comes have code
+stay_loud : (s : Statement) → stays s ≡ true → is_silent s ≡ false
+stay_loud (ReturnValue w e) h = refl
+stay_loud (While l c ss) h = refl
+stay_loud Empty h = absurd (true≢false (sym h))
+stay_loud (Assign ts e) h = absurd (true≢false (sym h))
+stay_loud (Evaluate e) h = absurd (true≢false (sym h))
+stay_loud Return h = absurd (true≢false (sym h))
+stay_loud Enabling h = absurd (true≢false (sym h))
+stay_loud Disabling h = absurd (true≢false (sym h))
+stay_loud Halting h = absurd (true≢false (sym h))
+stay_loud (If c arm other) h = absurd (true≢false (sym h))
+stay_loud (Block ss) h = absurd (true≢false (sym h))
+stay_loud (Case e ss) h = absurd (true≢false (sym h))
+stay_loud (Iterate e l) h = absurd (true≢false (sym h))
+stay_loud Leaving h = absurd (true≢false (sym h))
+stay_loud (Round l) h = absurd (true≢false (sym h))
+stay_loud (Comparing i e l) h = absurd (true≢false (sym h))
+stay_loud (Stepping e l) h = absurd (true≢false (sym h))
+stay_loud (Adding i s l) h = absurd (true≢false (sym h))
+stay_loud (Storing s b l) h = absurd (true≢false (sym h))
+stay_loud (Ending b l) h = absurd (true≢false (sym h))
+
+pub stay_all_loud : (ss : Statements) → all_stay ss ≡ true → are_silent ss ≡ false
+stay_all_loud End h = absurd (true≢false (sym h))
+stay_all_loud (Returned v) h = absurd (true≢false (sym h))
+stay_all_loud (Then s End) h = and_left (is_silent s) true (stay_loud s h)
+stay_all_loud (Then s (Then t rest)) h = and_right (is_silent s) (are_silent (Then t rest)) (stay_all_loud (Then t rest) h)
+stay_all_loud (Then s (Returned v)) h = absurd (true≢false (sym h))
 
 module _ (x : Setting) (MayCall : ℕ → Type 0) (calls : (q : ℕ) → MayCall q → ProcedureRuns x q) (around : Kind) (r : Routine) (D : Statements → Rest) (dx : IsBody x D) (ws : List Word) where
   abbrev code_at : ℕ → Statement → List Instruction
@@ -219,32 +258,33 @@ module _ (x : Setting) (MayCall : ℕ → Type 0) (calls : (q : ℕ) → MayCall
   to_room : (k n : ℕ) (later : Statements) (p a : ℕ) → k ≤ x.room → K k 2 n later p → S x x.room n 2 (D later) (At r p a ws)
   to_room k n later p a le go = eased x k x.room n 2 2 (D later) (At r p a ws) le (omega arith) (go a)
 
-  targets_sim : (ts : Targets) → AreTargets x.sizes x.procedures MayCall ts → (n v : ℕ) (later : Statements) (p : ℕ) → HasAt (x.code r) p (targets_code x.procedures ts) → S x x.room n 2 (D later) (At r (p + length (targets_code x.procedures ts)) v ws)
-      → S x 2 n 2 (D (Then (Assign ts (Value v)) later)) (At r p v ws)
-  targets_sim (Only t) good n v later p has go = target_sim x MayCall calls t good n v (λ y. D (Then (Assign (Only y) (Value v)) later)) (D later) (in_only x D dx later v) r p ws has go
-  targets_sim (Also t ts) good n v later p has go =
+  targets_sim : (ts : Targets) → AreTargets x.sizes x.procedures MayCall ts → targets_nodes ts + 2 ≤ x.room → (n v u : ℕ) → AllGet ts v u → (later : Statements) (p : ℕ) → HasAt (x.code r) p (targets_code x.procedures ts) → S x x.room n 2 (D later) (At r (p + length (targets_code x.procedures ts)) u ws)
+      → S x (targets_nodes ts + 2) n 2 (D (Then (Assign ts (Value v)) later)) (At r p u ws)
+  targets_sim (Only t) good fits n v u gets later p has go = target_sim x MayCall calls t good fits n v u gets (λ y. D (Then (Assign (Only y) (Value v)) later)) (D later) (in_only x D dx later v) r p ws has go
+  targets_sim (Also t ts) good fits n v u gets later p has go =
       let ct = target_code x.procedures t in
       let cs = targets_code x.procedures ts in
-      target_sim x MayCall calls t good.0 n v (λ y. D (Then (Assign (Also y ts) (Value v)) later)) (D (Then (Assign ts (Value v)) later)) (in_also x D dx later v ts) r p ws (has_front (x.code r) p ct cs has)
-      (rise x n 2 (D (Then (Assign ts (Value v)) later)) (At r (p + length ct) v ws) (omega arith)
-      (targets_sim ts good.1 n v later (p + length ct) (has_back (x.code r) p ct cs has) (moved_to x x.room n 2 (D later) r (p + length (ct ++ cs)) (p + length ct + length cs) v ws (omega (arith, length-append ct cs)) go)))
+      eased x (target_nodes t + 2) (targets_nodes (Also t ts) + 2) n 2 2 (D (Then (Assign (Also t ts) (Value v)) later)) (At r p u ws) (omega arith) (omega arith)
+      (target_sim x MayCall calls t good.0 (omega (arith, fits)) n v u gets.0 (λ y. D (Then (Assign (Also y ts) (Value v)) later)) (D (Then (Assign ts (Value v)) later)) (in_also x D dx later v ts) r p ws (has_front (x.code r) p ct cs has)
+      (rise_in x (targets_nodes ts + 2) n 2 (D (Then (Assign ts (Value v)) later)) (At r (p + length ct) u ws) (omega (arith, fits)) (omega arith)
+      (targets_sim ts good.1 (omega (arith, fits)) n v u gets.1 later (p + length ct) (has_back (x.code r) p ct cs has) (moved_to x x.room n 2 (D later) r (p + length (ct ++ cs)) (p + length ct + length cs) u ws (omega (arith, length-append ct cs)) go))))
 
   assign_runs : (ts : Targets) (e : Expression) → AreTargets x.sizes x.procedures MayCall ts → IsExpression x.sizes x.procedures MayCall e → StatementRuns (Assign ts e)
   assign_runs ts e gt ge not n ret exit later p k small has to out a =
-      let ce = expression_code x.procedures e in
+      let ce = given_code x.procedures ts e in
       let ct = targets_code x.procedures ts in
       let pe = p + length ce in
-      eased x 2 (k + 5) n 0 1 (D (Then (Assign ts e) later)) (At r p a ws) (omega arith) (omega arith)
-      (expression_sim x MayCall calls e ge n (λ y. D (Then (Assign ts y) later)) (in_assign x D dx later ts) r p ws (has_front (x.code r) p ce ct has)
-      (λ v lt. rise x n 2 (D (Then (Assign ts (Value v)) later)) (At r pe v ws) (omega arith)
-      (targets_sim ts gt n v later pe (has_back (x.code r) p ce ct has) (moved_to x x.room n 2 (D later) r (p + length (ce ++ ct)) (pe + length ct) v ws (omega (arith, length-append ce ct)) (to_room k n later (p + length (ce ++ ct)) v (omega (arith, small)) to)))) a)
+      eased x (nodes e + 2) (k + (targets_nodes ts + nodes e + 5)) n 0 1 (D (Then (Assign ts e) later)) (At r p a ws) (omega arith) (omega arith)
+      (given_sim x MayCall calls ts e ge (omega (arith, small)) n (λ y. D (Then (Assign ts y) later)) (in_assign x D dx later ts) r p ws (has_front (x.code r) p ce ct has)
+      (λ v u gets. rise_in x (targets_nodes ts + 2) n 2 (D (Then (Assign ts (Value v)) later)) (At r pe u ws) (omega (arith, small)) (omega arith)
+      (targets_sim ts gt (omega (arith, small)) n v u gets later pe (has_back (x.code r) p ce ct has) (moved_to x x.room n 2 (D later) r (p + length (ce ++ ct)) (pe + length ct) u ws (omega (arith, length-append ce ct)) (to_room k n later (p + length (ce ++ ct)) u (omega (arith, small)) to)))) a)
 
-  evaluated_sim : (e : Expression) → IsExpression x.sizes x.procedures MayCall e → (n : ℕ) (later : Statements) (p k : ℕ) → k + 5 ≤ x.room → HasAt (x.code r) p (expression_code x.procedures e)
-      → K k 2 n later (p + length (expression_code x.procedures e)) → K (k + 5) 1 n (Then (Evaluate e) later) p
+  evaluated_sim : (e : Expression) → IsExpression x.sizes x.procedures MayCall e → (n : ℕ) (later : Statements) (p k : ℕ) → k + (nodes e + 5) ≤ x.room → HasAt (x.code r) p (expression_code x.procedures e)
+      → K k 2 n later (p + length (expression_code x.procedures e)) → K (k + (nodes e + 5)) 1 n (Then (Evaluate e) later) p
   evaluated_sim e ge n later p k small has to a =
-      eased x 2 (k + 5) n 0 1 (D (Then (Evaluate e) later)) (At r p a ws) (omega arith) (omega arith)
-      (subst (λ y. S x 2 n 0 (D (evaluated y e later)) (At r p a ws)) (not_value x MayCall calls e ge)
-      (expression_sim x MayCall calls e ge n (λ y. D (evaluated (value_of y) y later)) (in_evaluate x D dx later) r p ws has
+      eased x (nodes e + 2) (k + (nodes e + 5)) n 0 1 (D (Then (Evaluate e) later)) (At r p a ws) (omega arith) (omega arith)
+      (subst (λ y. S x (nodes e + 2) n 0 (D (evaluated y e later)) (At r p a ws)) (not_value x MayCall calls e ge)
+      (expression_sim x MayCall calls e ge (omega (arith, small)) n (λ y. D (evaluated (value_of y) y later)) (in_evaluate x D dx later) r p ws has
       (λ v lt. to_room k n later (p + length (expression_code x.procedures e)) v (omega (arith, small)) to) a))
 
   -- after a call whose value is dropped the accumulator is not asked for
@@ -254,8 +294,8 @@ module _ (x : Setting) (MayCall : ℕ → Type 0) (calls : (q : ℕ) → MayCall
 
   evaluate_runs : (e : Expression) → IsExpression x.sizes x.procedures MayCall e → StatementRuns (Evaluate e)
   evaluate_runs (Call q es) ge not n ret exit later p k small has to out a =
-      eased x 2 (k + 5) n 0 1 (D (Then (Evaluate (Call q es)) later)) (At r p a ws) (omega arith) (omega arith)
-      (call_sim x MayCall calls es q ge n (λ y. D (evaluated (value_of y) y later)) (in_evaluate x D dx later) r p ws has
+      eased x (all_nodes es + 2) (k + (nodes (Call q es) + 5)) n 0 1 (D (Then (Evaluate (Call q es)) later)) (At r p a ws) (omega arith) (omega arith)
+      (call_sim x MayCall calls es q ge (omega (arith, small)) n (λ y. D (evaluated (value_of y) y later)) (in_evaluate x D dx later) r p ws has
       (left_out (are_giving ge.0.0.body) n later (p + length (calling x.procedures q es)) k (omega (arith, small)) to) a)
   evaluate_runs (Constant c) ge not n ret exit later p k small has to out a = evaluated_sim (Constant c) ge n later p k small has to a
   evaluate_runs (Plain w y) ge not n ret exit later p k small has to out a = evaluated_sim (Plain w y) ge n later p k small has to a
@@ -282,46 +322,58 @@ module _ (x : Setting) (MayCall : ℕ → Type 0) (calls : (q : ℕ) → MayCall
       eased x 1 2 n 0 1 (D (Then Return later)) (At r p a ws) (omega arith) (omega arith)
       (up x 0 n 0 (omega arith) (D (Then Return later)) (D (Returned 0)) (At r p a ws) (dx (Then Return later) refl) (ret 0 p a has.0))
 
-  narrowed_then : (w : Width) (n : ℕ) → Returns Giving n → (v : ℕ) → v < 65536 → (R : Rest) → N x R ≡ Silent (D (Returned (low w v))) → (p : ℕ) → HasAt (x.code r) p (narrowed w ++ op.Leave ∷ []) → S x 2 n 1 R (At r p v ws)
-  narrowed_then widths.Byte n ret v lt R u p has =
-      down x 2 n 0 R (At r p v ws) (At r (p + 1) (v % 256) ws) (acts x r p v ws (op.Unary unary.Low widths.Word) has.0)
+  -- what is in the accumulator of a value for RETURN
+  abbrev IsReturned : Width → (value accumulator : ℕ) → Type 0
+  IsReturned widths.Byte v c = HasLow v c
+  IsReturned widths.Word v c = c ≡ v
+
+  -- a value of which the low byte alone is in the accumulator, where that is wanted
+  narrowed_then : (w : Width) (n : ℕ) → Returns Giving n → (v c : ℕ) → v < 65536 → IsReturned w v c → (R : Rest) → N x R ≡ Silent (D (Returned (low w v))) → (p : ℕ) → HasAt (x.code r) p (narrowed w ++ op.Leave ∷ []) → S x 2 n 1 R (At r p c ws)
+  narrowed_then widths.Byte n ret v c lt is R u p has =
+      down x 2 n 0 R (At r p c ws) (At r (p + 1) (v % 256) ws) (acts x r p c ws (op.Unary unary.Low widths.Word) has.0 ∙ ap (λ y. Silent (At r (p + 1) y ws)) is)
       (soon x n 0 0 R (At r (p + 1) (v % 256) ws) (omega arith)
       (up x 1 n 0 (omega arith) R (D (Returned (v % 256))) (At r (p + 1) (v % 256) ws) u (ret (v % 256) (p + 1) (omega arith) has.1.0)))
-  narrowed_then widths.Word n ret v lt R u p has =
-      eased x 2 2 n 0 1 R (At r p v ws) (omega arith) (omega arith)
-      (up x 1 n 0 (omega arith) R (D (Returned v)) (At r p v ws) (u ∙ ap (λ y. Silent (D (Returned y))) (low_word v lt)) (ret v p lt has.0))
+  narrowed_then widths.Word n ret v c lt is R u p has =
+      eased x 2 2 n 0 1 R (At r p c ws) (omega arith) (omega arith)
+      (up x 1 n 0 (omega arith) R (D (Returned v)) (At r p c ws) (u ∙ ap (λ y. Silent (D (Returned y))) (low_word v lt)) (subst (λ y. S x 1 n 0 (D (Returned v)) (At r p y ws)) (sym is) (ret v p lt has.0)))
 
-  value_then : (kind : Kind) → MayReturnValue x.sizes x.procedures MayCall kind → (w : Width) (e : Expression) → IsExpression x.sizes x.procedures MayCall e → (n : ℕ) → Returns kind n → (later : Statements) (p a : ℕ) → HasAt (x.code r) p (expression_code x.procedures e ++ (narrowed w ++ op.Leave ∷ []))
-      → S x 2 n 0 (D (Then (ReturnValue w e) later)) (At r p a ws)
-  value_then OfMain may w e ge n ret later p a has = absurd may
-  value_then Serving may w e ge n ret later p a has = absurd may
-  value_then Called may w e ge n ret later p a has = absurd may
-  value_then Giving may w e ge n ret later p a has =
-      let ce = expression_code x.procedures e in
+  -- the value of a RETURN
+  returned_sim : (w : Width) (e : Expression) → IsExpression x.sizes x.procedures MayCall e → nodes e + 2 ≤ x.room → (n : ℕ) (C : Expression → Rest) → IsHole x C → (p : ℕ) → HasAt (x.code r) p (returned_code x.procedures w e)
+      → ((v c : ℕ) → v < 65536 → IsReturned w v c → S x x.room n 2 (C (Value v)) (At r (p + length (returned_code x.procedures w e)) c ws)) → (a : ℕ) → S x (nodes e + 2) n 0 (C e) (At r p a ws)
+  returned_sim widths.Byte e ge fits n C cx p has k a = low_sim x MayCall calls e ge fits n C cx r p ws has (λ v c f h. k v c (fits_small (is_byte e) v f) h) a
+  returned_sim widths.Word e ge fits n C cx p has k a = expression_sim x MayCall calls e ge fits n C cx r p ws has (λ v lt. k v v lt refl) a
+
+  value_then : (kind : Kind) → MayReturnValue x.sizes x.procedures MayCall kind → (w : Width) (e : Expression) → IsExpression x.sizes x.procedures MayCall e → nodes e + 2 ≤ x.room → (n : ℕ) → Returns kind n → (later : Statements) (p a : ℕ) → HasAt (x.code r) p (returned_code x.procedures w e ++ (narrowed w ++ op.Leave ∷ []))
+      → S x (nodes e + 2) n 0 (D (Then (ReturnValue w e) later)) (At r p a ws)
+  value_then OfMain may w e ge fits n ret later p a has = absurd may
+  value_then Serving may w e ge fits n ret later p a has = absurd may
+  value_then Called may w e ge fits n ret later p a has = absurd may
+  value_then Giving may w e ge fits n ret later p a has =
+      let ce = returned_code x.procedures w e in
       let cn = narrowed w ++ op.Leave ∷ [] in
       let pe = p + length ce in
-      expression_sim x MayCall calls e ge n (λ y. D (Then (ReturnValue w y) later)) (in_return x D dx later w) r p ws (has_front (x.code r) p ce cn has)
-      (λ v lt. rise x n 1 (D (Then (ReturnValue w (Value v)) later)) (At r pe v ws) (omega arith)
-      (narrowed_then w n ret v lt (D (Then (ReturnValue w (Value v)) later)) (dx (Then (ReturnValue w (Value v)) later) refl) pe (has_back (x.code r) p ce cn has))) a
+      returned_sim w e ge fits n (λ y. D (Then (ReturnValue w y) later)) (in_return x D dx later w) p (has_front (x.code r) p ce cn has)
+      (λ v c lt is. rise x n 1 (D (Then (ReturnValue w (Value v)) later)) (At r pe c ws) (omega arith)
+      (narrowed_then w n ret v c lt is (D (Then (ReturnValue w (Value v)) later)) (dx (Then (ReturnValue w (Value v)) later) refl) pe (has_back (x.code r) p ce cn has))) a
 
   -- ---- IF
 
   -- the condition, once it is known where the two ways lead
-  if_then : (c : Expression) (arm other : Statements) → IsExpression x.sizes x.procedures MayCall c → (n k kk : ℕ) → kk ≤ x.room → 3 ≤ k → (later : Statements) (p d : ℕ) (tail : List Instruction) → HasAt (x.code r) p (condition_code x.procedures c ++ (op.AheadUnless (test_of c) d ∷ tail))
+  if_then : (c : Expression) (arm other : Statements) → IsExpression x.sizes x.procedures MayCall c → nodes c + 2 ≤ x.room → (n k kk : ℕ) → kk ≤ x.room → nodes c + 3 ≤ k → (later : Statements) (p d : ℕ) (tail : List Instruction) → HasAt (x.code r) p (condition_code x.procedures c ++ (op.AheadUnless (test_of c) d ∷ tail))
       → K kk 2 n (behind arm later) (p + length (condition_code x.procedures c) + 1) → K kk 2 n (behind other later) (p + length (condition_code x.procedures c) + 1 + d) → K k 1 n (Then (If c arm other) later) p
-  if_then c arm other gc n k kk small wide later p d tail has ours theirs a =
+  if_then c arm other gc fits n k kk small wide later p d tail has ours theirs a =
       let cc = condition_code x.procedures c in
       let on = p + length cc + 1 in
-      eased x 3 k n 0 1 (D (Then (If c arm other) later)) (At r p a ws) wide (omega arith)
+      eased x (nodes c + 3) k n 0 1 (D (Then (If c arm other) later)) (At r p a ws) wide (omega arith)
       (condition_sim x MayCall calls n kk small D (behind arm later) (behind other later) r on (on + d) ws ours theirs
       (λ y. D (Then (If y arm other) later)) (in_if x D dx later arm other) (λ v. dx (Then (If (Value v) arm other) later) refl ∙ ap (λ y. Silent (D y)) (behind_if (is_odd v) arm other later))
-      c gc p d (has_head (x.code r) p cc (op.AheadUnless (test_of c) d) tail has) refl refl a)
+      c gc fits p d (has_head (x.code r) p cc (op.AheadUnless (test_of c) d) tail has) refl refl a)
 
-  if_by : (c : Expression) (arm other : Statements) → IsExpression x.sizes x.procedures MayCall c → ArmRuns arm → ArmRuns other → (b : Bool) → are_silent other ≡ b → (n : ℕ) → Returns around n → (exit : ℕ) (later : Statements) (p k : ℕ) → k + (leads arm + leads other + 5) ≤ x.room
+  if_by : (c : Expression) (arm other : Statements) → IsExpression x.sizes x.procedures MayCall c → ArmRuns arm → ArmRuns other → (b : Bool) → are_silent other ≡ b → (n : ℕ) → Returns around n → (exit : ℕ) (later : Statements) (p k : ℕ) → k + (nodes c + leads arm + leads other + 5) ≤ x.room
       → HasAt (x.code r) p (choosing (condition_code x.procedures c) (test_of c) (codes_at (length (over b (codes_at exit other) exit) + length (codes_at exit other) + exit) arm) b (codes_at exit other) exit)
       → K k 2 n later (p + length (choosing (condition_code x.procedures c) (test_of c) (codes_at (length (over b (codes_at exit other) exit) + length (codes_at exit other) + exit) arm) b (codes_at exit other) exit))
       → K k 1 n later (p + length (choosing (condition_code x.procedures c) (test_of c) (codes_at (length (over b (codes_at exit other) exit) + length (codes_at exit other) + exit) arm) b (codes_at exit other) exit) + exit)
-      → K (k + (leads arm + leads other + 5)) 1 n (Then (If c arm other) later) p
+      → K (k + (nodes c + leads arm + leads other + 5)) 1 n (Then (If c arm other) later) p
   if_by c arm other gc run runs true e n ret exit later p k small has to out =
       let cc = condition_code x.procedures c in
       let co = codes_at exit other in
@@ -338,7 +390,7 @@ module _ (x : Setting) (MayCall : ℕ → Type 0) (calls : (q : ℕ) → MayCall
       let out' = k_at k 1 n later (p + length whole + exit) (on + d) (omega (arith, end_is)) out in
       let ours = run n ret arm_exit later on k (omega (arith, small)) (has_front (x.code r) on ca ([] ++ co) h1) (k_at k 2 n later (p + length whole) (on + length ca) end_is to) (k_at k 1 n later (on + d) (on + length ca + arm_exit) (omega (arith, none)) out') in
       let theirs = silents_sim other e n k 2 later (on + d) (omega arith) (k_more k k 1 2 n later (on + d) (omega arith) (omega arith) out') in
-      if_then c arm other gc n (k + (leads arm + leads other + 5)) kk (omega (arith, small)) (omega arith) later p d tail has
+      if_then c arm other gc (omega (arith, small)) n (k + (nodes c + leads arm + leads other + 5)) kk (omega (arith, small)) (omega arith) later p d tail has
       (k_more (k + leads arm) kk 2 2 n (behind arm later) on (omega arith) (omega arith) ours) (k_more (k + leads other) kk 2 2 n (behind other later) (on + d) (omega arith) (omega arith) theirs)
   if_by c arm other gc run runs false e n ret exit later p k small has to out =
       let cc = condition_code x.procedures c in
@@ -360,7 +412,7 @@ module _ (x : Setting) (MayCall : ℕ → Type 0) (calls : (q : ℕ) → MayCall
       (then_ x k n 1 1 (D later) (At r (pa + 1 + (length co + exit)) a ws) (omega (arith, small)) (omega arith) (k_at k 1 n later (p + length whole + exit) (pa + 1 + (length co + exit)) (omega (arith, end_is)) out a)) in
       let ours = run n ret arm_exit later on k (omega (arith, small)) (has_front (x.code r) on ca (past ++ co) h1) past_end (k_at k 1 n later (p + length whole + exit) (pa + arm_exit) (omega (arith, end_is)) out) in
       let theirs = runs n ret exit later (on + d) k (omega (arith, small)) (has_at x r (pa + 1) (on + d) co (omega arith) h2.1) (k_at k 2 n later (p + length whole) (on + d + length co) (omega (arith, end_is)) to) (k_at k 1 n later (p + length whole + exit) (on + d + length co + exit) (omega (arith, end_is)) out) in
-      if_then c arm other gc n (k + (leads arm + leads other + 5)) kk (omega (arith, small)) (omega arith) later p d tail has
+      if_then c arm other gc (omega (arith, small)) n (k + (nodes c + leads arm + leads other + 5)) kk (omega (arith, small)) (omega arith) later p d tail has
       (k_more (k + leads arm) kk 2 2 n (behind arm later) on (omega arith) (omega arith) ours) (k_more (k + leads other) kk 2 2 n (behind other later) (on + d) (omega arith) (omega arith) theirs)
 
   if_runs : (c : Expression) (arm other : Statements) → IsExpression x.sizes x.procedures MayCall c → ArmRuns arm → ArmRuns other → StatementRuns (If c arm other)
@@ -368,9 +420,9 @@ module _ (x : Setting) (MayCall : ℕ → Type 0) (calls : (q : ℕ) → MayCall
 
   -- ---- DO WHILE: by induction on the number of instructions, of which the jump back uses one up
 
-  while_sim : (c : Expression) → IsExpression x.sizes x.procedures MayCall c → (ss : Statements) → ArmRuns ss → (exit p k : ℕ) → k + (leads ss + 5) ≤ x.room
+  while_sim : (c : Expression) → IsExpression x.sizes x.procedures MayCall c → (ss : Statements) → ArmRuns ss → (exit p k : ℕ) → k + (nodes c + leads ss + 5) ≤ x.room
       → HasAt (x.code r) p (condition_code x.procedures c ++ (op.AheadUnless (test_of c) (length (codes_at 0 ss) + 1 + exit) ∷ (codes_at 0 ss ++ op.Back (length (condition_code x.procedures c) + length (codes_at 0 ss) + 2) ∷ []))) → (later : Statements)
-      → (n : ℕ) → Returns around n → K k 1 n later (p + length (condition_code x.procedures c) + 1 + length (codes_at 0 ss) + 1 + exit) → (a : ℕ) → S x 3 n 0 (D (Then (While c c ss) later)) (At r p a ws)
+      → (n : ℕ) → Returns around n → K k 1 n later (p + length (condition_code x.procedures c) + 1 + length (codes_at 0 ss) + 1 + exit) → (a : ℕ) → S x (nodes c + 3) n 0 (D (Then (While c c ss) later)) (At r p a ws)
   while_sim c gc ss run exit p k small has later zero ret out a = tt
   while_sim c gc ss run exit p k small has later (suc n) ret out a =
       let cc = condition_code x.procedures c in
@@ -383,23 +435,85 @@ module _ (x : Setting) (MayCall : ℕ → Type 0) (calls : (q : ℕ) → MayCall
       let h2 = has_back (x.code r) on cs back h1 in
       let again : K 0 1 (suc n) (Then (While c c ss) later) pb = λ b.
       down_more x 0 n 0 (D (Then (While c c ss) later)) (At r pb b ws) (At r p b ws) (acts x r pb b ws (op.Back (length cc + length cs + 2)) h2.0 ∙ ap (λ y. Silent (At r y b ws)) (omega arith))
-      (then_ x 3 n 0 0 (D (Then (While c c ss) later)) (At r p b ws) (omega arith) (omega arith) (while_sim c gc ss run exit p k small has later n (fewer_returns around n ret) (k_fewer k 1 n later (on + length cs + 1 + exit) out) b)) in
+      (then_ x (nodes c + 3) n 0 0 (D (Then (While c c ss) later)) (At r p b ws) (omega (arith, small)) (omega arith) (while_sim c gc ss run exit p k small has later n (fewer_returns around n ret) (k_fewer k 1 n later (on + length cs + 1 + exit) out) b)) in
       let kk = k + leads ss in
       let ours = run (suc n) ret 0 (Then (While c c ss) later) on 0 (omega (arith, small)) (has_front (x.code r) on cs back h1) (k_more 0 0 1 2 (suc n) (Then (While c c ss) later) pb (omega arith) (omega arith) again) (k_at 0 1 (suc n) (Then (While c c ss) later) pb (pb + 0) (omega arith) again) in
       condition_sim x MayCall calls (suc n) kk (omega (arith, small)) D (behind ss (Then (While c c ss) later)) later r on (on + d) ws
       (k_more (0 + leads ss) kk 2 2 (suc n) (behind ss (Then (While c c ss) later)) on (omega arith) (omega arith) ours)
       (k_more k kk 1 2 (suc n) later (on + d) (omega arith) (omega arith) (k_at k 1 (suc n) later (on + length cs + 1 + exit) (on + d) (omega arith) out))
       (λ y. D (Then (While y c ss) later)) (in_while x D dx later c ss) (λ v. dx (Then (While (Value v) c ss) later) refl)
-      c gc p d (has_head (x.code r) p cc (op.AheadUnless (test_of c) d) (cs ++ back) has) refl refl a
+      c gc (omega (arith, small)) p d (has_head (x.code r) p cc (op.AheadUnless (test_of c) d) (cs ++ back) has) refl refl a
 
-  while_runs : (c : Expression) (ss : Statements) → IsExpression x.sizes x.procedures MayCall c → ArmRuns ss → StatementRuns (While c c ss)
-  while_runs c ss gc run not n ret exit later p k small has to out a =
+  -- Without a test: the body again and again. The jump back goes with the rest's steps to the next round.
+  round_on : (j : ℕ) → is_odd j ≡ true → (ss : Statements) → ArmRuns ss → (p k : ℕ) → k + (leads ss + 6) ≤ x.room → HasAt (x.code r) p (codes_at 0 ss ++ op.Back (length (codes_at 0 ss) + 1) ∷ []) → (later : Statements)
+      → (n : ℕ) → Returns around n → (a : ℕ) → S x (3 + leads ss) n 2 (D (behind ss (Then (While (Constant j) (Constant j) ss) later))) (At r p a ws)
+  round_on j odd ss run p k small has later zero ret a = tt
+  round_on j odd ss run p k small has later (suc n) ret a =
+      let c = Constant j in
+      let cs = codes_at 0 ss in
+      let back = op.Back (length cs + 1) ∷ [] in
+      let pb = p + length cs in
+      let W = D (Then (While c c ss) later) in
+      let V = D (Then (While (Value j) c ss) later) in
+      let h2 = has_back (x.code r) p cs back has in
+      let again : (f : ℕ) → f ≤ 2 → K 3 f (suc n) (Then (While c c ss) later) pb = λ f le b.
+      eased x 2 3 (suc n) f f W (At r pb b ws) (omega arith) (omega arith)
+      (up x 1 (suc n) f le W V (At r pb b ws) (in_while x D dx later c ss c refl)
+      (both_more x 0 n f V (D (behind ss (Then (While c c ss) later))) (At r pb b ws) (At r p b ws)
+      (dx (Then (While (Value j) c ss) later) refl ∙ ap (λ y. Silent (D (if y then behind ss (Then (While c c ss) later) else later))) odd)
+      (acts x r pb b ws (op.Back (length cs + 1)) h2.0 ∙ ap (λ y. Silent (At r y b ws)) (omega arith))
+      (then_ x (3 + leads ss) n 2 2 (D (behind ss (Then (While c c ss) later))) (At r p b ws) (omega (arith, small)) (omega arith) (round_on j odd ss run p k small has later n (fewer_returns around n ret) b)))) in
+      run (suc n) ret 0 (Then (While c c ss) later) p 3 (omega (arith, small)) (has_front (x.code r) p cs back has) (again 2 (omega arith))
+      (k_at 3 1 (suc n) (Then (While c c ss) later) pb (pb + 0) (omega arith) (again 1 (omega arith))) a
+
+  -- a DO WHILE by whether its condition is known to hold
+  abbrev WhileLoopRuns : (b : Bool) → Expression → Statements → Type 0
+  WhileLoopRuns b c ss = (n : ℕ) → Returns around n → (exit : ℕ) (later : Statements) (p k : ℕ) → k + (nodes c + leads ss + 5) ≤ x.room → HasAt (x.code r) p (while_loop b (condition_code x.procedures c) (test_of c) (codes_at 0 ss) exit)
+      → K k 2 n later (p + length (while_loop b (condition_code x.procedures c) (test_of c) (codes_at 0 ss) exit)) → K k 1 n later (p + length (while_loop b (condition_code x.procedures c) (test_of c) (codes_at 0 ss) exit) + exit)
+      → K (k + (nodes c + leads ss + 5)) 1 n (Then (While c c ss) later) p
+
+  -- for ever
+  abbrev Forever : Expression → Statements → Type 0
+  Forever c ss = (n : ℕ) → Returns around n → (exit : ℕ) (later : Statements) (p k : ℕ) → k + (nodes c + leads ss + 5) ≤ x.room → HasAt (x.code r) p (while_loop true (condition_code x.procedures c) (test_of c) (codes_at 0 ss) exit) → K (k + (nodes c + leads ss + 5)) 1 n (Then (While c c ss) later) p
+
+  constant_runs : (j : ℕ) → is_odd j ≡ true → (ss : Statements) → ArmRuns ss → Forever (Constant j) ss
+  constant_runs j odd ss run n ret exit later p k small has a =
+      let c = Constant j in
+      eased x (suc (suc (3 + leads ss))) (k + (nodes c + leads ss + 5)) n 1 1 (D (Then (While c c ss) later)) (At r p a ws) (omega arith) (omega arith)
+      (up x (suc (3 + leads ss)) n 1 (omega arith) (D (Then (While c c ss) later)) (D (Then (While (Value j) c ss) later)) (At r p a ws) (in_while x D dx later c ss c refl)
+      (up_free x (3 + leads ss) n 1 2 (omega arith) (D (Then (While (Value j) c ss) later)) (D (behind ss (Then (While c c ss) later))) (At r p a ws)
+      (dx (Then (While (Value j) c ss) later) refl ∙ ap (λ y. Silent (D (if y then behind ss (Then (While c c ss) later) else later))) odd)
+      (round_on j odd ss run p k (omega (arith, small)) has later n ret a)))
+
+  always_runs : (c : Expression) → always c ≡ true → (ss : Statements) → ArmRuns ss → Forever c ss
+  always_runs (Constant j) odd ss run = constant_runs j odd ss run
+  always_runs (Plain w y) odd ss run = absurd (true≢false (sym odd))
+  always_runs (Variable w q) odd ss run = absurd (true≢false (sym odd))
+  always_runs (Location q) odd ss run = absurd (true≢false (sym odd))
+  always_runs (Unary o w e) odd ss run = absurd (true≢false (sym odd))
+  always_runs (Binary m l o w d b) odd ss run = absurd (true≢false (sym odd))
+  always_runs (Embedded t e) odd ss run = absurd (true≢false (sym odd))
+  always_runs (Input w e) odd ss run = absurd (true≢false (sym odd))
+  always_runs (Call q es) odd ss run = absurd (true≢false (sym odd))
+  always_runs (Value v) odd ss run = absurd (true≢false (sym odd))
+  always_runs (Passing q xs vs) odd ss run = absurd (true≢false (sym odd))
+  always_runs (Running qs) odd ss run = absurd (true≢false (sym odd))
+
+  tested_runs : (c : Expression) (ss : Statements) → IsExpression x.sizes x.procedures MayCall c → ArmRuns ss → WhileLoopRuns false c ss
+  tested_runs c ss gc run n ret exit later p k small has to out a =
       let cc = condition_code x.procedures c in
       let cs = codes_at 0 ss in
       let back = op.Back (length cc + length cs + 2) ∷ [] in
       let body = op.AheadUnless (test_of c) (length cs + 1 + exit) ∷ (cs ++ back) in
-      eased x 3 (k + (leads ss + 5)) n 0 1 (D (Then (While c c ss) later)) (At r p a ws) (omega arith) (omega arith)
+      eased x (nodes c + 3) (k + (nodes c + leads ss + 5)) n 0 1 (D (Then (While c c ss) later)) (At r p a ws) (omega arith) (omega arith)
       (while_sim c gc ss run exit p k small has later n ret (k_at k 1 n later (p + length (cc ++ body) + exit) (p + length cc + 1 + length cs + 1 + exit) (omega (arith, length-append cc body, length-append cs back)) out) a)
+
+  while_loop_runs : (b : Bool) (c : Expression) → always c ≡ b → (ss : Statements) → IsExpression x.sizes x.procedures MayCall c → ArmRuns ss → WhileLoopRuns b c ss
+  while_loop_runs true c is ss gc run n ret exit later p k small has to out = always_runs c is ss run n ret exit later p k small has
+  while_loop_runs false c is ss gc run n ret exit later p k small has to out = tested_runs c ss gc run n ret exit later p k small has to out
+
+  while_runs : (c : Expression) (ss : Statements) → IsExpression x.sizes x.procedures MayCall c → ArmRuns ss → StatementRuns (While c c ss)
+  while_runs c ss gc run not = while_loop_runs (always c) c refl ss gc run
 
   -- ---- DO CASE
 
@@ -522,12 +636,37 @@ module _ (x : Setting) (MayCall : ℕ → Type 0) (calls : (q : ℕ) → MayCall
       let ce = expression_code x.procedures e in
       let cs = switching (cases_at exit ss) exit in
       let pe = p + length ce in
-      eased x 2 (k + (leads ss + 5)) n 0 1 (D (Then (Case e ss) later)) (At r p a ws) (omega arith) (omega arith)
-      (expression_sim x MayCall calls e ge n (λ y. D (Then (Case y ss) later)) (in_case x D dx later ss) r p ws (has_front (x.code r) p ce cs has)
+      eased x (nodes e + 2) (k + (nodes e + leads ss + 5)) n 0 1 (D (Then (Case e ss) later)) (At r p a ws) (omega arith) (omega arith)
+      (expression_sim x MayCall calls e ge (omega (arith, small)) n (λ y. D (Then (Case y ss) later)) (in_case x D dx later ss) r p ws (has_front (x.code r) p ce cs has)
       (λ v lt. rise x n 0 (D (Then (Case (Value v) ss) later)) (At r pe v ws) (omega arith)
-      (switch_by ss runs n ret exit k later pe v small (has_back (x.code r) p ce cs has) (k_at k 1 n later (p + length (ce ++ cs) + exit) (pe + length cs + exit) (omega (arith, length-append ce cs)) out) _ refl)) a)
+      (switch_by ss runs n ret exit k later pe v (omega (arith, small)) (has_back (x.code r) p ce cs has) (k_at k 1 n later (p + length (ce ++ cs) + exit) (pe + length cs + exit) (omega (arith, length-append ce cs)) out) _ refl)) a)
 
   -- ---- a DO with an index
+
+  -- what the accumulator holds of an index of which the low byte alone is read where it is a BYTE
+  abbrev kept : Width → (accumulator index : ℕ) → ℕ
+  kept widths.Byte a i = a / 256 * 256 + i
+  kept widths.Word a i = i
+
+  kept_low : (w : Width) (a i : ℕ) → HasLow i (kept w a i)
+  kept_low widths.Byte a i = omega arith
+  kept_low widths.Word a i = refl
+
+  kept_sum : (w : Width) (a i s : ℕ) → low w (kept w a i + s) ≡ low w (i + s)
+  kept_sum widths.Byte a i s = omega arith
+  kept_sum widths.Word a i s = refl
+
+  low_index : (w : Width) (y : Where) → Lies x.sizes w y → (p a : ℕ) (us : List Word) → slice_get (x.code r) p ≡ Some (low_load w (place_of y)) → X x (At r p a us) ≡ Touch (Read w y) (λ i. At r (p + 1) (kept w a i) us)
+  low_index widths.Byte y lies p a us h = acts x r p a us (op.Low (lows.Load (place_of y)) highs.Kept) h ∙ ap (λ t. loaded widths.Byte t (λ i. At r (p + 1) (a / 256 * 256 + i) us)) (found_plain x widths.Byte y lies)
+  low_index widths.Word y lies p a us h = acts x r p a us (op.Load widths.Word (place_of y)) h ∙ ap (λ t. loaded widths.Word t (λ i. At r (p + 1) i us)) (found_plain x widths.Word y lies)
+
+  narrow_is : (w : Width) → is_narrow w ≡ true → w ≡ widths.Byte
+  narrow_is widths.Byte h = refl
+  narrow_is widths.Word h = absurd (true≢false (sym h))
+
+  returned_low : (w : Width) (v c : ℕ) → IsReturned w v c → low w c ≡ low w v
+  returned_low widths.Byte v c h = h
+  returned_low widths.Word v c h = ap (λ z. z % 65536) h
 
   module _ (o : Counting) (y : Scalar) (bound step : Expression) (ss : Statements) (lies : Lies x.sizes y.width y.place) (gb : IsExpression x.sizes x.procedures MayCall bound) (gs : IsExpression x.sizes x.procedures MayCall step) (by : StepIs o y.width (operand_of step)) (run : ArmRuns ss) (later : Statements) (pr : ℕ) where
     abbrev l : Loop
@@ -565,20 +704,71 @@ module _ (x : Setting) (MayCall : ℕ → Type 0) (calls : (q : ℕ) → MayCall
     back_to : (before p : ℕ) → p ≡ pr + before → p + 4 - (before + 4) ≡ pr
     back_to before p e = omega (arith, e)
 
+    back_soon : (before p : ℕ) → p ≡ pr + before → p + 2 - (before + 2) ≡ pr
+    back_soon before p e = omega (arith, e)
+
     back_far : (before p : ℕ) → p ≡ pr + before → p + 6 - (before + 6) ≡ pr
     back_far before p e = omega (arith, e)
 
-    -- a constant step
-    number_then : (n k s before p : ℕ) → StepIs o w (Number s) → s < 65536 → k ≤ x.room → p ≡ pr + before → HasAt (x.code r) p (next_by_number o y s before) → ((a : ℕ) → S x 2 n 0 (D (Then (Round l) later)) (At r pr a ws)) → K k 2 (suc n) later (p + 4) → (a : ℕ) → S x 3 (suc n) 1 (D (Then (Stepping (Constant s) l) later)) (At r p a ws)
-    number_then n k s before p is word small at has round go a =
-        up x 2 (suc n) 1 (omega arith) (D (Then (Stepping (Constant s) l) later)) (D (Then (Stepping (Value s) l) later)) (At r p a ws) (in_stepping x D dx later l (Constant s) refl)
+    -- a constant step of an INTEGER
+    signed_then : (left : Relation) (from n k s before p : ℕ) → folded step ≡ Some s → ((i : ℕ) → i < values w → stands left (low w (i + s)) from ≡ leaves o w i s) → k ≤ x.room → p ≡ pr + before → HasAt (x.code r) p (next_with_sign left from y s before) → ((a : ℕ) → S x 2 n 0 (D (Then (Round l) later)) (At r pr a ws))
+        → K k 2 (suc n) later (p + 4) → (a : ℕ) → S x (nodes step + 3) (suc n) 1 (D (Then (Stepping step l) later)) (At r p a ws)
+    signed_then left from n k s before p known tells small at has round go a =
+        folds x step s known 3 (suc n) 1 (omega arith) (λ e. D (Then (Stepping e l) later)) (in_stepping x D dx later l) (At r p a ws)
+        (λ R u. up x 2 (suc n) 1 (omega arith) R (D (Then (Stepping (Value s) l) later)) (At r p a ws) u
         (adding_then (suc n) s a ws ws p has.0 (λ i. acts x r (p + 1) i ws (op.BinaryConstant binary.Add w s) has.1.0 ∙ ap (λ q. Silent (At r q (low w (i + s)) ws)) (omega arith))
         (subst (λ q. slice_get (x.code r) q ≡ Some (op.Store w (place_of y.place))) (omega arith) has.1.1.0)
         (λ i lt. ending_by n k (low w (i + s)) (At r (p + 2 + 1) (low w (i + s)) ws) (p + 4) small round go (leaves o w i s)
-        (acts x r (p + 2 + 1) (low w (i + s)) ws (op.BackUnless (test.Constant (left_in o) (left_from o s)) (before + 4)) (subst (λ q. slice_get (x.code r) q ≡ Some (op.BackUnless (test.Constant (left_in o) (left_from o s)) (before + 4))) (omega arith) has.1.1.1.0)
-        ∙ ap (λ b. Silent (At r (if b then p + 2 + 1 + 1 else p + 2 + 1 + 1 - (before + 4)) (low w (i + s)) ws)) (left_sum o w i s is word lt)
+        (acts x r (p + 2 + 1) (low w (i + s)) ws (op.BackUnless (test.Constant left from) (before + 4)) (subst (λ q. slice_get (x.code r) q ≡ Some (op.BackUnless (test.Constant left from) (before + 4))) (omega arith) has.1.1.1.0)
+        ∙ ap (λ b. Silent (At r (if b then p + 2 + 1 + 1 else p + 2 + 1 + 1 - (before + 4)) (low w (i + s)) ws)) (tells i lt)
         ∙ ap (λ q. Silent (At r (if leaves o w i s then q else p + 2 + 1 + 1 - (before + 4)) (low w (i + s)) ws)) (omega arith)
-        ∙ ap (λ q. Silent (At r (if leaves o w i s then p + 4 else q) (low w (i + s)) ws)) (ap (λ q. q - (before + 4)) (omega arith) ∙ back_to before p at))) 1)
+        ∙ ap (λ q. Silent (At r (if leaves o w i s then p + 4 else q) (low w (i + s)) ws)) (ap (λ q. q - (before + 4)) (omega arith) ∙ back_to before p at))) 1))
+
+    -- a round begins, or the loop ends, by a step of the rest alone
+    over_by : (n k z pe : ℕ) → k ≤ x.room → ((a : ℕ) → S x 2 n 0 (D (Then (Round l) later)) (At r pr a ws)) → K k 2 (suc n) later pe → (b : Bool) → T x n 2 (D (Then (Ending b l) later)) (At r (if b then pe else pr) z ws)
+    over_by n k z pe small round go false =
+        then_ x 3 n 0 2 (D (Then (Ending false l) later)) (At r pr z ws) (omega arith) (omega arith)
+        (up x 2 n 0 (omega arith) (D (Then (Ending false l) later)) (D (Then (Round l) later)) (At r pr z ws) (dx (Then (Ending false l) later) refl) (round z))
+    over_by n k z pe small round go true =
+        then_ x (suc k) n 2 2 (D (Then (Ending true l) later)) (At r pe z ws) (omega (arith, small)) (omega arith)
+        (up x k n 2 (omega arith) (D (Then (Ending true l) later)) (D later) (At r pe z ws) (dx (Then (Ending true l) later) refl) (k_fewer k 2 n later pe go z))
+
+    -- the sum is stored, and by the same instruction a round begins or the loop ends
+    storing_on : (n k i c s before p : ℕ) → low w (c + s) ≡ low w (i + s) → o ≡ counting.Up → i < values w → k ≤ x.room → p ≡ pr + before → slice_get (x.code r) (p + 1) ≡ Some (op.Next w (place_of y.place) s (before + 2)) → ((a : ℕ) → S x 2 n 0 (D (Then (Round l) later)) (At r pr a ws)) → K k 2 (suc n) later (p + 2)
+        → S x 2 (suc n) 0 (D (Then (Storing (i + s) (leaves o w i s) l) later)) (At r (p + 1) c ws)
+    storing_on n k i c s before p same upwards lt small at h round go =
+        let b = leaves o w i s in
+        let sum = low w (i + s) in
+        let z = with_low w c (c + s) in
+        touches_more x 2 n 0 (Write w y.place sum) (D (Then (Storing (i + s) b l) later)) (λ v. D (Then (Ending b l) later)) (At r (p + 1) c ws) (λ v. At r (if b then p + 2 else pr) z ws) (dx (Then (Storing (i + s) b l) later) refl)
+        (acts x r (p + 1) c ws (op.Next w (place_of y.place) s (before + 2)) h
+        ∙ ap (λ t. stored w t (c + s) (At r (if nat_lt (low w (c + s)) s then p + 1 + 1 else p + 1 + 1 - (before + 2)) z ws)) (found_plain x w y.place lies)
+        ∙ ap (λ t. Touch (Write w y.place t) (λ v. At r (if nat_lt t s then p + 1 + 1 else p + 1 + 1 - (before + 2)) z ws)) same
+        ∙ ap (λ q. Touch (Write w y.place sum) (λ v. At r (if q then p + 1 + 1 else p + 1 + 1 - (before + 2)) z ws)) (counted_sum o w i s upwards lt)
+        ∙ ap (λ q. Touch (Write w y.place sum) (λ v. At r (if b then q else p + 1 + 1 - (before + 2)) z ws)) (omega arith)
+        ∙ ap (λ q. Touch (Write w y.place sum) (λ v. At r (if b then p + 2 else q) z ws)) (ap (λ q. q - (before + 2)) (omega arith) ∙ back_soon before p at))
+        (λ v vt. over_by n k z (p + 2) small round go b)
+
+    -- a constant step of a BYTE or WORD
+    counted_then : (n k s before p : ℕ) → folded step ≡ Some s → o ≡ counting.Up → k ≤ x.room → p ≡ pr + before → HasAt (x.code r) p (low_load w (place_of y.place) ∷ op.Next w (place_of y.place) s (before + 2) ∷ []) → ((a : ℕ) → S x 2 n 0 (D (Then (Round l) later)) (At r pr a ws)) → K k 2 (suc n) later (p + 2)
+        → (a : ℕ) → S x (nodes step + 3) (suc n) 1 (D (Then (Stepping step l) later)) (At r p a ws)
+    counted_then n k s before p known upwards small at has round go a =
+        folds x step s known 3 (suc n) 1 (omega arith) (λ e. D (Then (Stepping e l) later)) (in_stepping x D dx later l) (At r p a ws)
+        (λ R u. up x 2 (suc n) 1 (omega arith) R (D (Then (Stepping (Value s) l) later)) (At r p a ws) u
+        (touches x 2 (suc n) 1 (Read w y.place) (D (Then (Stepping (Value s) l) later)) (λ i. D (Then (Adding i s l) later)) (At r p a ws) (λ i. At r (p + 1) (kept w a i) ws) (dx (Then (Stepping (Value s) l) later) refl)
+        (low_index w y.place lies p a ws has.0)
+        (λ i lt. then_ x 3 (suc n) 0 2 (D (Then (Adding i s l) later)) (At r (p + 1) (kept w a i) ws) (omega arith) (omega arith)
+        (up x 2 (suc n) 0 (omega arith) (D (Then (Adding i s l) later)) (D (Then (Storing (i + s) (leaves o w i s) l) later)) (At r (p + 1) (kept w a i) ws) (dx (Then (Adding i s l) later) refl)
+        (storing_on n k i (kept w a i) s before p (kept_sum w a i s) upwards lt small at has.1.0 round go)))))
+
+    -- a constant step
+    number_then : (c : Counting) → o ≡ c → (n k s before p : ℕ) → folded step ≡ Some s → StepIs c w (Number s) → s < 65536 → k ≤ x.room → p ≡ pr + before → HasAt (x.code r) p (next_by_number c y s before) → ((a : ℕ) → S x 2 n 0 (D (Then (Round l) later)) (At r pr a ws)) → K k 2 (suc n) later (p + length (next_by_number c y s before))
+        → (a : ℕ) → S x (nodes step + 3) (suc n) 1 (D (Then (Stepping step l) later)) (At r p a ws)
+    number_then counting.Up so n k s before p known by word small at has round go a = counted_then n k s before p known so small at has round go a
+    number_then counting.SignedUp so n k s before p known by word small at has round go a =
+        signed_then relation.LessSigned ((s + 32768) % 65536) n k s before p known (λ i lt. up_sum w i s by.1 lt by.0 ∙ ap (λ q. leaves q w i s) (sym so)) small at has round go a
+    number_then counting.SignedDown so n k s before p known by word small at has round go a =
+        signed_then relation.GreaterSigned ((s + 32767) % 65536) n k s before p known (λ i lt. down_sum w i s by.1 lt by.0 word ∙ ap (λ q. leaves q w i s) (sym so)) small at has round go a
 
     -- every other step is pushed twice
     pushed_then : (n k s before p : ℕ) → o ≡ counting.Up → k ≤ x.room → p ≡ pr + before → HasAt (x.code r) p (add_pushed y before) → ((a : ℕ) → S x 2 n 0 (D (Then (Round l) later)) (At r pr a ws)) → K k 2 (suc n) later (p + 6) → S x 2 (suc n) 2 (D (Then (Stepping (Value s) l) later)) (At r p s ws)
@@ -594,36 +784,53 @@ module _ (x : Setting) (MayCall : ℕ → Type 0) (calls : (q : ℕ) → MayCall
         (subst (λ q. slice_get (x.code r) q ≡ Some (op.Store w (place_of y.place))) (omega arith) has.1.1.1.1.0)
         (λ i lt. ending_by n k (low w (i + s)) (At r (p + 1 + 1 + 2 + 1) (low w (i + s)) us) (p + 6) small round go (leaves o w i s)
         (acts x r (p + 1 + 1 + 2 + 1) (low w (i + s)) us (op.BackUnless (test.Top relation.Greater) (before + 6)) (subst (λ q. slice_get (x.code r) q ≡ Some (op.BackUnless (test.Top relation.Greater) (before + 6))) (omega arith) has.1.1.1.1.1.0)
-        ∙ ap (λ b. Silent (At r (if b then p + 1 + 1 + 2 + 1 + 1 else p + 1 + 1 + 2 + 1 + 1 - (before + 6)) (low w (i + s)) ws)) (pushed_sum o w i s upwards lt)
+        ∙ ap (λ b. Silent (At r (if b then p + 1 + 1 + 2 + 1 + 1 else p + 1 + 1 + 2 + 1 + 1 - (before + 6)) (low w (i + s)) ws)) (counted_sum o w i s upwards lt)
         ∙ ap (λ q. Silent (At r (if leaves o w i s then q else p + 1 + 1 + 2 + 1 + 1 - (before + 6)) (low w (i + s)) ws)) (omega arith)
         ∙ ap (λ q. Silent (At r (if leaves o w i s then p + 6 else q) (low w (i + s)) ws)) (ap (λ q. q - (before + 6)) (omega arith) ∙ back_far before p at))) 0))))
 
-    computed_then : (n k before p : ℕ) → o ≡ counting.Up → k ≤ x.room → p ≡ pr + before → HasAt (x.code r) p (expression_code x.procedures step ++ add_pushed y (before + length (expression_code x.procedures step))) → ((a : ℕ) → S x 2 n 0 (D (Then (Round l) later)) (At r pr a ws))
-        → K k 2 (suc n) later (p + length (expression_code x.procedures step ++ add_pushed y (before + length (expression_code x.procedures step)))) → (a : ℕ) → S x 3 (suc n) 1 (D (Then (Stepping step l) later)) (At r p a ws)
-    computed_then n k before p upwards small at has round go a =
+    computed_then : (n k before p : ℕ) → o ≡ counting.Up → nodes step + 2 ≤ x.room → k ≤ x.room → p ≡ pr + before → HasAt (x.code r) p (expression_code x.procedures step ++ add_pushed y (before + length (expression_code x.procedures step))) → ((a : ℕ) → S x 2 n 0 (D (Then (Round l) later)) (At r pr a ws))
+        → K k 2 (suc n) later (p + length (expression_code x.procedures step ++ add_pushed y (before + length (expression_code x.procedures step)))) → (a : ℕ) → S x (nodes step + 3) (suc n) 1 (D (Then (Stepping step l) later)) (At r p a ws)
+    computed_then n k before p upwards fits small at has round go a =
         let ce = expression_code x.procedures step in
         let ca = add_pushed y (before + length ce) in
         let pe = p + length ce in
-        eased x 2 3 (suc n) 0 1 (D (Then (Stepping step l) later)) (At r p a ws) (omega arith) (omega arith)
-        (expression_sim x MayCall calls step gs (suc n) (λ e. D (Then (Stepping e l) later)) (in_stepping x D dx later l) r p ws (has_front (x.code r) p ce ca has)
+        eased x (nodes step + 2) (nodes step + 3) (suc n) 0 1 (D (Then (Stepping step l) later)) (At r p a ws) (omega arith) (omega arith)
+        (expression_sim x MayCall calls step gs fits (suc n) (λ e. D (Then (Stepping e l) later)) (in_stepping x D dx later l) r p ws (has_front (x.code r) p ce ca has)
         (λ s lt. rise x (suc n) 2 (D (Then (Stepping (Value s) l) later)) (At r pe s ws) (omega arith)
         (pushed_then n k s (before + length ce) pe upwards small (omega (arith, at)) (has_back (x.code r) p ce ca has) round (k_at k 2 (suc n) later (p + length (ce ++ ca)) (pe + 6) (omega (arith, length-append ce ca)) go))) a)
 
-    step_then : (q : Operand) → IsOperand step q → StepIs o w q → (n k before p : ℕ) → k ≤ x.room → p ≡ pr + before → HasAt (x.code r) p (next_round o y q (expression_code x.procedures step) before) → ((a : ℕ) → S x 2 n 0 (D (Then (Round l) later)) (At r pr a ws))
-        → K k 2 (suc n) later (p + length (next_round o y q (expression_code x.procedures step) before)) → (a : ℕ) → S x 3 (suc n) 1 (D (Then (Stepping step l) later)) (At r p a ws)
-    step_then (Number s) is by n k before p small at has round go a =
-        subst (λ e. S x 3 (suc n) 1 (D (Then (Stepping e (Count o y bound step ss)) later)) (At r p a ws)) (sym is)
-        (number_then n k s before p by (subst (λ e. IsExpression x.sizes x.procedures MayCall e) is gs) small at has round go a)
-    step_then (Name read z) is by n k before p small at has round go a = computed_then n k before p (named_up o w read z by) small at has round go a
-    step_then Computed is by n k before p small at has round go a = computed_then n k before p (computed_up o w by) small at has round go a
+    step_then : (q : Operand) → IsOperand step q → StepIs o w q → nodes step + 2 ≤ x.room → (n k before p : ℕ) → k ≤ x.room → p ≡ pr + before → HasAt (x.code r) p (next_round o y q (expression_code x.procedures step) before) → ((a : ℕ) → S x 2 n 0 (D (Then (Round l) later)) (At r pr a ws))
+        → K k 2 (suc n) later (p + length (next_round o y q (expression_code x.procedures step) before)) → (a : ℕ) → S x (nodes step + 3) (suc n) 1 (D (Then (Stepping step l) later)) (At r p a ws)
+    step_then (Number s) is by fits n k before p small at has round go a = number_then o refl n k s before p is by (folded_small x.sizes x.procedures MayCall step gs s is) small at has round go a
+    step_then (Name read z) is by fits n k before p small at has round go a = computed_then n k before p (named_up o w read z by) fits small at has round go a
+    step_then Computed is by fits n k before p small at has round go a = computed_then n k before p (computed_up o w by) fits small at has round go a
+
+    -- the index, before it is compared
+    abbrev seen : (bytes : Bool) → (accumulator index : ℕ) → ℕ
+    seen true a i = kept w a i
+    seen false a i = i
+
+    index_is : (b : Bool) → counts_bytes y bound ≡ b → (a : ℕ) → slice_get (x.code r) pr ≡ Some (index_read b y) → X x (At r pr a ws) ≡ Touch (Read w y.place) (λ i. At r (pr + 1) (seen b a i) ws)
+    index_is true is a h =
+        let narrow = narrow_is w (and_parts (is_narrow w) (is_byte bound) is).0 in
+        low_index w y.place lies pr a ws (subst (λ v. slice_get (x.code r) pr ≡ Some (low_load v (place_of y.place))) (sym narrow) h)
+    index_is false is a h = acts x r pr a ws (op.Load w (place_of y.place)) h ∙ ap (λ t. loaded w t (λ i. At r (pr + 1) i ws)) (found_plain x w y.place lies)
+
+    holds_index : (b : Bool) → counts_bytes y bound ≡ b → (a i : ℕ) → i < values w → Holds b i (seen b a i) bound
+    holds_index true is a i lt = (subst (λ v. i < values v) (narrow_is w (and_parts (is_narrow w) (is_byte bound) is).0) lt, (and_parts (is_narrow w) (is_byte bound) is).1, kept_low w a i)
+    holds_index false is a i lt = refl
+
+    -- the bound's code
+    abbrev comparison : (bytes : Bool) → List Instruction
+    comparison b = compared b (beside (operand_of bound) (low_code x.procedures bound)) (beside (operand_of bound) (expression_code x.procedures bound))
 
     -- the rounds, by induction on the number of instructions
-    round_sim : (exit k : ℕ) → k + (leads ss + 5) ≤ x.room → (cb cs ca : List Instruction) → cb ≡ beside (operand_of bound) (expression_code x.procedures bound) → cs ≡ codes_at 0 ss → ca ≡ next_round o y (operand_of step) (expression_code x.procedures step) (length cb + length cs + 2)
-        → HasAt (x.code r) pr (op.Load w (place_of y.place) ∷ (cb ++ (op.AheadUnless (stands_to (within o) (operand_of bound)) (length cs + length ca + exit) ∷ (cs ++ ca))))
+    round_sim : (bytes : Bool) → counts_bytes y bound ≡ bytes → (exit k : ℕ) → k + (nodes bound + nodes step + leads ss + 5) ≤ x.room → (cb cs ca : List Instruction) → cb ≡ comparison bytes → cs ≡ codes_at 0 ss → ca ≡ next_round o y (operand_of step) (expression_code x.procedures step) (length cb + length cs + 2)
+        → HasAt (x.code r) pr (index_read bytes y ∷ (cb ++ (op.AheadUnless (related bytes (within o) (operand_of bound)) (length cs + length ca + exit) ∷ (cs ++ ca))))
         → (n : ℕ) → Returns around n → K k 2 n later (pr + 1 + length cb + 1 + length cs + length ca) → K k 1 n later (pr + 1 + length cb + 1 + length cs + length ca + exit) → (a : ℕ) → S x 2 n 0 (D (Then (Round l) later)) (At r pr a ws)
-    round_sim exit k small cb cs ca eb es ea has zero ret to out a = tt
-    round_sim exit k small cb cs ca eb es ea has (suc n) ret to out a =
-        let jump = op.AheadUnless (stands_to (within o) (operand_of bound)) (length cs + length ca + exit) in
+    round_sim bytes is exit k small cb cs ca eb es ea has zero ret to out a = tt
+    round_sim bytes is exit k small cb cs ca eb es ea has (suc n) ret to out a =
+        let jump = op.AheadUnless (related bytes (within o) (operand_of bound)) (length cs + length ca + exit) in
         let m = suc n in
         let p1 = pr + 1 in
         let pj = p1 + length cb in
@@ -634,22 +841,22 @@ module _ (x : Setting) (MayCall : ℕ → Type 0) (calls : (q : ℕ) → MayCall
         let h1 = has_back (x.code r) p1 cb (jump ∷ (cs ++ ca)) has.1 in
         let h2 = has_front (x.code r) on cs ca h1.1 in
         let h3 = has_back (x.code r) on cs ca h1.1 in
-        let round = round_sim exit k small cb cs ca eb es ea has n (fewer_returns around n ret) (k_fewer k 2 n later pe to) (k_fewer k 1 n later (pe + exit) out) in
-        let next : K 3 1 m (Then (Stepping step l) later) pg = step_then (operand_of step) (operand_is step) by n k (length cb + length cs + 2) pg (omega (arith, small)) (omega arith)
+        let round = round_sim bytes is exit k small cb cs ca eb es ea has n (fewer_returns around n ret) (k_fewer k 2 n later pe to) (k_fewer k 1 n later (pe + exit) out) in
+        let ks = nodes step + 3 in
+        let next : K (nodes step + 3) 1 m (Then (Stepping step l) later) pg = step_then (operand_of step) (operand_is step) by (omega (arith, small)) n k (length cb + length cs + 2) pg (omega (arith, small)) (omega arith)
         (subst (λ c. HasAt (x.code r) pg c) ea h3) round (k_at k 2 m later pe (pg + length (next_round o y (operand_of step) (expression_code x.procedures step) (length cb + length cs + 2))) (omega (arith, ap length ea)) to) in
-        let kk = k + leads ss + 3 in
-        let ours = run m ret 0 (Then (Stepping step l) later) on 3 (omega (arith, small)) (subst (λ c. HasAt (x.code r) on c) es h2)
-        (k_more 3 3 1 2 m (Then (Stepping step l) later) (on + length (codes_at 0 ss)) (omega arith) (omega arith) (k_at 3 1 m (Then (Stepping step l) later) pg (on + length (codes_at 0 ss)) (omega (arith, ap length es)) next))
-        (k_at 3 1 m (Then (Stepping step l) later) pg (on + length (codes_at 0 ss) + 0) (omega (arith, ap length es)) next) in
-        let cb' = beside (operand_of bound) (expression_code x.procedures bound) in
+        let kk = k + leads ss + ks in
+        let ours = run m ret 0 (Then (Stepping step l) later) on ks (omega (arith, small)) (subst (λ c. HasAt (x.code r) on c) es h2)
+        (k_more ks ks 1 2 m (Then (Stepping step l) later) (on + length (codes_at 0 ss)) (omega arith) (omega arith) (k_at ks 1 m (Then (Stepping step l) later) pg (on + length (codes_at 0 ss)) (omega (arith, ap length es)) next))
+        (k_at ks 1 m (Then (Stepping step l) later) pg (on + length (codes_at 0 ss) + 0) (omega (arith, ap length es)) next) in
         let len = ap length eb in
-        touches x 2 m 0 (Read w y.place) (D (Then (Round l) later)) (λ i. D (Then (Comparing i bound l) later)) (At r pr a ws) (λ i. At r p1 i ws) (dx (Then (Round l) later) refl)
-        (acts x r pr a ws (op.Load w (place_of y.place)) has.0 ∙ ap (λ o. loaded w o (λ i. At r p1 i ws)) (found_plain x w y.place lies))
-        (λ i lt. then_ x 3 m 1 2 (D (Then (Comparing i bound l) later)) (At r p1 i ws) (omega arith) (omega arith)
+        touches x 2 m 0 (Read w y.place) (D (Then (Round l) later)) (λ i. D (Then (Comparing i bound l) later)) (At r pr a ws) (λ i. At r p1 (seen bytes a i) ws) (dx (Then (Round l) later) refl)
+        (index_is bytes is a has.0)
+        (λ i lt. then_ x (nodes bound + 3) m 1 2 (D (Then (Comparing i bound l) later)) (At r p1 (seen bytes a i) ws) (omega (arith, small)) (omega arith)
         (bound_sim x MayCall calls m kk (omega (arith, small)) D (behind ss (Then (Stepping step l) later)) later r on (on + d) ws
-        (k_more (3 + leads ss) kk 2 2 m (behind ss (Then (Stepping step l) later)) on (omega arith) (omega arith) ours)
+        (k_more (ks + leads ss) kk 2 2 m (behind ss (Then (Stepping step l) later)) on (omega arith) (omega arith) ours)
         (k_more k kk 1 2 m later (on + d) (omega arith) (omega arith) (k_at k 1 m later (pe + exit) (on + d) (omega arith) out))
-        o i (λ e. D (Then (Comparing i e l) later)) (in_comparing x D dx later i l) (λ v. dx (Then (Comparing i (Value v) l) later) refl) bound gb p1 d
+        bytes o i (seen bytes a i) (λ e. D (Then (Comparing i e l) later)) (in_comparing x D dx later i l) (λ v. dx (Then (Comparing i (Value v) l) later) refl) bound gb (holds_index bytes is a i lt) (omega (arith, small)) p1 d
         (subst (λ c. HasAt (x.code r) p1 (c ++ jump ∷ [])) eb (has_head (x.code r) p1 cb jump (cs ++ ca) has.1)) (omega (arith, len)) (omega (arith, len))))
 
   abbrev pub LoopRuns : Loop → Type 0
@@ -657,12 +864,13 @@ module _ (x : Setting) (MayCall : ℕ → Type 0) (calls : (q : ℕ) → MayCall
 
   iterate_runs : (e : Expression) (l : Loop) → IsExpression x.sizes x.procedures MayCall e → IsLoop x.sizes x.procedures MayCall around l → LoopRuns l → StatementRuns (Iterate e l)
   iterate_runs e (Count o y bound step ss) ge gl runs not n ret exit later p k small has to out a =
-      let ce = expression_code x.procedures e in
-      let cb = beside (operand_of bound) (expression_code x.procedures bound) in
+      let bytes = counts_bytes y bound in
+      let ce = returned_code x.procedures y.width e in
+      let cb = compared bytes (beside (operand_of bound) (low_code x.procedures bound)) (beside (operand_of bound) (expression_code x.procedures bound)) in
       let cs = codes_at 0 ss in
       let ca = next_round o y (operand_of step) (expression_code x.procedures step) (length cb + length cs + 2) in
-      let jump = op.AheadUnless (stands_to (within o) (operand_of bound)) (length cs + length ca + exit) in
-      let rounds = op.Load y.width (place_of y.place) ∷ (cb ++ (jump ∷ (cs ++ ca))) in
+      let jump = op.AheadUnless (related bytes (within o) (operand_of bound)) (length cs + length ca + exit) in
+      let rounds = index_read bytes y ∷ (cb ++ (jump ∷ (cs ++ ca))) in
       let tail = op.Store y.width (place_of y.place) ∷ rounds in
       let pe = p + length ce in
       let pr = pe + 1 in
@@ -672,14 +880,14 @@ module _ (x : Setting) (MayCall : ℕ → Type 0) (calls : (q : ℕ) → MayCall
       let len3 = length-append cs ca in
       let h = has_back (x.code r) p ce tail has in
       let end = pr + 1 + length cb + 1 + length cs + length ca in
-      eased x 2 (k + (leads ss + 5)) n 0 1 (D (Then (Iterate e l) later)) (At r p a ws) (omega arith) (omega arith)
-      (expression_sim x MayCall calls e ge n (λ z. D (Then (Iterate z l) later)) (in_iterate x D dx later l) r p ws (has_front (x.code r) p ce tail has)
-      (λ v lt. rise x n 0 (D (Then (Iterate (Value v) l) later)) (At r pe v ws) (omega arith)
-      (touches x 2 n 0 (Write y.width y.place (low y.width v)) (D (Then (Iterate (Value v) l) later)) (λ z. D (Then (Round l) later)) (At r pe v ws) (λ z. At r pr v ws) (dx (Then (Iterate (Value v) l) later) refl)
-      (acts x r pe v ws (op.Store y.width (place_of y.place)) h.0 ∙ ap (λ o. stored y.width o v (At r pr v ws)) (found_plain x y.width y.place gl.0))
-      (λ z zt. soon x n 0 2 (D (Then (Round l) later)) (At r pr v ws) (omega arith)
-      (round_sim o y bound step ss gl.0 gl.1 gl.2 gl.4 runs later pr exit k small cb cs ca refl refl refl h.1 n ret
-      (k_at k 2 n later (p + length (ce ++ tail)) end (omega (arith, len, len2, len3)) to) (k_at k 1 n later (p + length (ce ++ tail) + exit) (end + exit) (omega (arith, len, len2, len3)) out) v)))) a)
+      eased x (nodes e + 2) (k + (nodes e + (nodes bound + nodes step + leads ss) + 5)) n 0 1 (D (Then (Iterate e l) later)) (At r p a ws) (omega arith) (omega arith)
+      (returned_sim y.width e ge (omega (arith, small)) n (λ z. D (Then (Iterate z l) later)) (in_iterate x D dx later l) p (has_front (x.code r) p ce tail has)
+      (λ v c lt is. rise x n 0 (D (Then (Iterate (Value v) l) later)) (At r pe c ws) (omega arith)
+      (touches x 2 n 0 (Write y.width y.place (low y.width v)) (D (Then (Iterate (Value v) l) later)) (λ z. D (Then (Round l) later)) (At r pe c ws) (λ z. At r pr c ws) (dx (Then (Iterate (Value v) l) later) refl)
+      (acts x r pe c ws (op.Store y.width (place_of y.place)) h.0 ∙ ap (λ o. stored y.width o c (At r pr c ws)) (found_plain x y.width y.place gl.0) ∙ ap (λ t. Touch (Write y.width y.place t) (λ z. At r pr c ws)) (returned_low y.width v c is))
+      (λ z zt. soon x n 0 2 (D (Then (Round l) later)) (At r pr c ws) (omega arith)
+      (round_sim o y bound step ss gl.0 gl.1 gl.2 gl.4 runs later pr bytes refl exit k (omega (arith, small)) cb cs ca refl refl refl h.1 n ret
+      (k_at k 2 n later (p + length (ce ++ tail)) end (omega (arith, len, len2, len3)) to) (k_at k 1 n later (p + length (ce ++ tail) + exit) (end + exit) (omega (arith, len, len2, len3)) out) c)))) a)
 
   -- ---- all statements
 
@@ -706,7 +914,7 @@ module _ (x : Setting) (MayCall : ℕ → Type 0) (calls : (q : ℕ) → MayCall
     statement_sim (Assign ts e) good = assign_runs ts e good.0 good.1
     statement_sim (Evaluate e) good = evaluate_runs e good
     statement_sim Return good = λ not n ret exit later p k small has to out a. eased x 2 (k + 5) n 1 1 (D (Then Return later)) (At r p a ws) (omega arith) (omega arith) (return_then around good n ret later p a has)
-    statement_sim (ReturnValue w e) good = λ not n ret exit later p k small has to out a. eased x 2 (k + 5) n 0 1 (D (Then (ReturnValue w e) later)) (At r p a ws) (omega arith) (omega arith) (value_then around good.0 w e good.1 n ret later p a has)
+    statement_sim (ReturnValue w e) good = λ not n ret exit later p k small has to out a. eased x (nodes e + 2) (k + (nodes e + 5)) n 0 1 (D (Then (ReturnValue w e) later)) (At r p a ws) (omega arith) (omega arith) (value_then around good.0 w e good.1 (omega (arith, small)) n ret later p a has)
     statement_sim Enabling good = simple_enables
     statement_sim Disabling good = simple_disables
     statement_sim Halting good = simple_halts
@@ -735,3 +943,66 @@ module _ (x : Setting) (MayCall : ℕ → Type 0) (calls : (q : ℕ) → MayCall
     statements_sim End good = λ not. absurd (true≢false not)
     statements_sim (Then s rest) good = λ not. pair_runs s rest (statement_sim s good.0) (statements_sim rest good.1) (is_silent s) (are_silent rest) refl refl not
     statements_sim (Returned v) good = absurd good
+
+  -- ---- statements to whose end control never comes
+
+  endless : (s : Statement) → stays s ≡ true → IsStatement x.sizes x.procedures MayCall around s → (n : ℕ) → Returns around n → (exit : ℕ) (later : Statements) (p k : ℕ) → k + lead s ≤ x.room → HasAt (x.code r) p (code_at exit s) → K (k + lead s) 1 n (Then s later) p
+  endless (ReturnValue w e) h good n ret exit later p k small has = λ a.
+      eased x (nodes e + 2) (k + (nodes e + 5)) n 0 1 (D (Then (ReturnValue w e) later)) (At r p a ws) (omega arith) (omega arith) (value_then around good.0 w e good.1 (omega (arith, small)) n ret later p a has)
+  endless (While left c ss) h good n ret exit later p k small has =
+      subst (λ e. K (k + (nodes c + leads ss + 5)) 1 n (Then (While e c ss) later) p) (sym good.0)
+      (always_runs c h ss (arm_runs ss (statements_sim ss good.2) (are_silent ss) refl) n ret exit later p k small (subst (λ b. HasAt (x.code r) p (while_loop b (condition_code x.procedures c) (test_of c) (codes_at 0 ss) exit)) h has))
+  endless Empty h good n ret exit later p k small has = absurd (true≢false (sym h))
+  endless (Assign ts e) h good n ret exit later p k small has = absurd (true≢false (sym h))
+  endless (Evaluate e) h good n ret exit later p k small has = absurd (true≢false (sym h))
+  endless Return h good n ret exit later p k small has = absurd (true≢false (sym h))
+  endless Enabling h good n ret exit later p k small has = absurd (true≢false (sym h))
+  endless Disabling h good n ret exit later p k small has = absurd (true≢false (sym h))
+  endless Halting h good n ret exit later p k small has = absurd (true≢false (sym h))
+  endless (If c arm other) h good n ret exit later p k small has = absurd (true≢false (sym h))
+  endless (Block ss) h good n ret exit later p k small has = absurd (true≢false (sym h))
+  endless (Case e ss) h good n ret exit later p k small has = absurd (true≢false (sym h))
+  endless (Iterate e l) h good n ret exit later p k small has = absurd (true≢false (sym h))
+  endless Leaving h good n ret exit later p k small has = absurd (true≢false (sym h))
+  endless (Round l) h good n ret exit later p k small has = absurd (true≢false (sym h))
+  endless (Comparing i e l) h good n ret exit later p k small has = absurd (true≢false (sym h))
+  endless (Stepping e l) h good n ret exit later p k small has = absurd (true≢false (sym h))
+  endless (Adding i s l) h good n ret exit later p k small has = absurd (true≢false (sym h))
+  endless (Storing s b l) h good n ret exit later p k small has = absurd (true≢false (sym h))
+  endless (Ending b l) h good n ret exit later p k small has = absurd (true≢false (sym h))
+
+  -- a statement before some to whose end control never comes
+  before_endless : (s : Statement) (rest : Statements) → StatementRuns s → (b : Bool) → is_silent s ≡ b → (n : ℕ) → Returns around n → (exit : ℕ) (later : Statements) (p k : ℕ) → k + (lead s + leads rest + 1) ≤ x.room → HasAt (x.code r) p (code_at 0 s ++ codes_at exit rest)
+      → K (k + leads rest) 1 n (behind rest later) (p + length (code_at 0 s)) → K (k + (lead s + leads rest + 1)) 1 n (Then s (behind rest later)) p
+  before_endless s rest run true es n ret exit later p k small has next =
+      let cs = code_at 0 s in
+      let none = ap length (silent_code x.procedures around s es 0) in
+      k_more (k + leads rest + lead s) (k + (lead s + leads rest + 1)) 1 1 n (Then s (behind rest later)) p (omega arith) (omega arith)
+      (silent_sim s es n (k + leads rest) 1 (behind rest later) p (omega arith) (k_at (k + leads rest) 1 n (behind rest later) (p + length cs) p (omega (arith, none)) next))
+  before_endless s rest run false es n ret exit later p k small has next =
+      let cs = code_at 0 s in
+      k_more (k + leads rest + lead s) (k + (lead s + leads rest + 1)) 1 1 n (Then s (behind rest later)) p (omega arith) (omega arith)
+      (run es n ret 0 (behind rest later) p (k + leads rest) (omega (arith, small)) (has_front (x.code r) p cs (codes_at exit rest) has)
+      (k_more (k + leads rest) (k + leads rest) 1 2 n (behind rest later) (p + length cs) (omega arith) (omega arith) next)
+      (k_at (k + leads rest) 1 n (behind rest later) (p + length cs) (p + length cs + 0) (omega arith) next))
+
+  all_endless : (ss : Statements) → all_stay ss ≡ true → AreStatements x.sizes x.procedures MayCall around ss → (n : ℕ) → Returns around n → (exit : ℕ) (later : Statements) (p k : ℕ) → k + leads ss ≤ x.room → HasAt (x.code r) p (codes_at exit ss) → K (k + leads ss) 1 n (behind ss later) p
+  all_endless End h good n ret exit later p k small has = absurd (true≢false (sym h))
+  all_endless (Returned v) h good n ret exit later p k small has = absurd (true≢false (sym h))
+  all_endless (Then s End) h good n ret exit later p k small has =
+      k_more (k + lead s) (k + (lead s + 0 + 1)) 1 1 n (Then s later) p (omega arith) (omega arith) (endless s h good.0 n ret exit later p k (omega (arith, small)) (has_front (x.code r) p (code_at exit s) [] has))
+  all_endless (Then s (Then t rest)) h good n ret exit later p k small has =
+      let more = Then t rest in
+      let here : HasAt (x.code r) p (code_at 0 s ++ codes_at exit more) = subst (λ b. HasAt (x.code r) p (code_at (exit_before b exit) s ++ codes_at exit more)) (stay_all_loud more h) has in
+      before_endless s more (statement_sim s good.0) (is_silent s) refl n ret exit later p k small here
+      (all_endless (Then t rest) h good.1 n ret exit later (p + length (code_at 0 s)) k (omega (arith, small)) (has_back (x.code r) p (code_at 0 s) (codes_at exit more) here))
+  all_endless (Then s (Returned v)) h good n ret exit later p k small has = absurd (true≢false (sym h))
+
+  -- the statements of a routine, by whether control comes to their end
+  pub whole_runs : (ss : Statements) → AreStatements x.sizes x.procedures MayCall around ss → (b : Bool) → all_stay ss ≡ b → (n : ℕ) → Returns around n → (k : ℕ) → k + leads ss ≤ x.room → HasAt (x.code r) 0 (codes_at 0 ss ++ ended_by b around)
+      → (HasAt (x.code r) (0 + length (codes_at 0 ss)) (ending around) → K k 2 n End (0 + length (codes_at 0 ss)) × K k 1 n End (0 + length (codes_at 0 ss) + 0)) → K (k + leads ss) 2 n (behind ss End) 0
+  whole_runs ss good true is n ret k small has end =
+      k_more (k + leads ss) (k + leads ss) 1 2 n (behind ss End) 0 (omega arith) (omega arith) (all_endless ss is good n ret 0 End 0 k small (has_front (x.code r) 0 (codes_at 0 ss) [] has))
+  whole_runs ss good false is n ret k small has end =
+      let at = end (has_back (x.code r) 0 (codes_at 0 ss) (ending around) has) in
+      arm_runs ss (statements_sim ss good) (are_silent ss) refl n ret 0 End 0 k small (has_front (x.code r) 0 (codes_at 0 ss) (ending around) has) at.0 at.1

@@ -13,8 +13,8 @@ use Rattle.plm_type.specs.declared.program.Counting.{Counting}
 use Rattle.plm_type.specs.declared.program.Counting.TheVariants as counting
 use Rattle.plm_type.specs.Next.{leaves, has_passed}
 use Rattle.icode.specs.Machine.{stands}
-use Rattle.lower.specs.Expressions.{Number, Name, Computed}
-use Rattle.lower.specs.Statements.{within, left_in, left_from}
+use Rattle.lower.specs.Expressions.{Name, Computed}
+use Rattle.lower.specs.Statements.{within}
 use Rattle.lower.specs.Well.{StepIs}
 use Rattle.lower.proofs.Bools.{not_less}
 
@@ -79,21 +79,15 @@ down_word i s hi lo hs =
     down_of (nat_le 32768 i) (nat_le 32768 ((i + s) % 65536)) (nat_le 32768 ((s + 32767) % 65536)) i s refl refl refl hi lo hs
     ∙ ap (λ z. not (in_range 65536 (signed 65536 i +ℤ z))) (sym (negative_of (nat_le 32768 s) s refl lo))
 
-up_sum : (w : Width) (i s : ℕ) → w ≡ widths.Word → i < values w → s < 32768 → signed_less (low w (i + s)) ((s + 32768) % 65536) ≡ not (in_range 65536 (signed 65536 i +ℤ signed 65536 s))
+pub up_sum : (w : Width) (i s : ℕ) → w ≡ widths.Word → i < values w → s < 32768 → signed_less (low w (i + s)) ((s + 32768) % 65536) ≡ not (in_range 65536 (signed 65536 i +ℤ signed 65536 s))
 up_sum w i s e hi hs = subst (λ v. i < values v → signed_less (low v (i + s)) ((s + 32768) % 65536) ≡ not (in_range 65536 (signed 65536 i +ℤ signed 65536 s))) (sym e) (λ h. up_word i s h hs) hi
 
-down_sum : (w : Width) (i s : ℕ) → w ≡ widths.Word → i < values w → 32768 ≤ s → s < 65536 → signed_less ((s + 32767) % 65536) (low w (i + s)) ≡ not (in_range 65536 (signed 65536 i +ℤ signed 65536 s))
+pub down_sum : (w : Width) (i s : ℕ) → w ≡ widths.Word → i < values w → 32768 ≤ s → s < 65536 → signed_less ((s + 32767) % 65536) (low w (i + s)) ≡ not (in_range 65536 (signed 65536 i +ℤ signed 65536 s))
 down_sum w i s e hi lo hs = subst (λ v. i < values v → signed_less ((s + 32767) % 65536) (low v (i + s)) ≡ not (in_range 65536 (signed 65536 i +ℤ signed 65536 s))) (sym e) (λ h. down_word i s h lo hs) hi
 
 -- ---- the tests of a loop
 
--- a constant step: the sum left the range of the index
-pub left_sum : (o : Counting) (w : Width) (i s : ℕ) → StepIs o w (Number s) → s < 65536 → i < values w → stands (left_in o) (low w (i + s)) (left_from o s) ≡ leaves o w i s
-left_sum counting.Up w i s is word h = below_sum w i s h
-left_sum counting.SignedUp w i s is word h = up_sum w i s is.1 h is.0
-left_sum counting.SignedDown w i s is word h = down_sum w i s is.1 h is.0 word
-
--- every other step is one of a BYTE or WORD
+-- a step that is no constant is one of a BYTE or WORD
 pub named_up : (o : Counting) (w : Width) (read : Width) (x : Place) → StepIs o w (Name read x) → o ≡ counting.Up
 named_up counting.Up w read x is = refl
 named_up counting.SignedUp w read x is = absurd is
@@ -104,16 +98,12 @@ computed_up counting.Up w is = refl
 computed_up counting.SignedUp w is = absurd is
 computed_up counting.SignedDown w is = absurd is
 
-pub pushed_sum : (o : Counting) (w : Width) (i s : ℕ) → o ≡ counting.Up → i < values w → nat_lt (low w (i + s)) s ≡ leaves o w i s
-pushed_sum o w i s up h = below_sum w i s h ∙ ap (λ q. leaves q w i s) (sym up)
+-- whose sum left the range of the index where it is below the step
+pub counted_sum : (o : Counting) (w : Width) (i s : ℕ) → o ≡ counting.Up → i < values w → nat_lt (low w (i + s)) s ≡ leaves o w i s
+counted_sum o w i s up h = below_sum w i s h ∙ ap (λ q. leaves q w i s) (sym up)
 
 -- a round begins unless the index is behind the bound
 pub reaches : (o : Counting) (i b : ℕ) → stands (within o) i b ≡ not (has_passed o i b)
 reaches counting.Up i b = not_less i b
 reaches counting.SignedUp i b = refl
 reaches counting.SignedDown i b = refl
-
-pub left_word : (o : Counting) (s : ℕ) → s < 65536 → left_from o s < 65536
-left_word counting.Up s h = h
-left_word counting.SignedUp s h = omega arith
-left_word counting.SignedDown s h = omega arith

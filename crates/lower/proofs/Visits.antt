@@ -1,20 +1,24 @@
 -- Code that runs stays in the routines that it begins in and that they call.
-use Rattle.std.proofs.Common.{◌≡◌, ℕ, zero, suc, ◌+◌, ◌-◌, Bool, true, false, List, [], ◌∷◌, Option, Some, None, refl, subst, slice_get}
+use Rattle.std.proofs.Common.{◌≡◌, ℕ, zero, suc, ◌+◌, ◌%◌, ◌-◌, Bool, true, false, List, [], ◌∷◌, Option, Some, None, refl, subst, slice_get}
 use Rattle.std.specs.Prelude.{drop, nat_le, nat_lt, length, if◌then◌else◌}
 use Rattle.word86.specs.declared.width.Width.{Width}
+use Rattle.word86.specs.declared.width.Width.TheVariants as widths
 use Rattle.word86.specs.Access.{Access, Where}
 use Rattle.word86.specs.Action.{Action, Silent, Touch, Enable, Disable, Halt, Over, Bad}
+use Rattle.word86.specs.Arithmetic.{low}
 use Rattle.word86.specs.Operation.{binary_value}
 use Rattle.word86.specs.Place.{bytes, held}
 use Rattle.icode.specs.declared.instruction.Instruction.{Instruction}
 use Rattle.icode.specs.declared.instruction.Instruction.TheVariants as op
+use Rattle.icode.specs.declared.instruction.LowByte.TheVariants as lows
+use Rattle.icode.specs.declared.instruction.Right.TheVariants as rights
 use Rattle.icode.specs.declared.instruction.Test.{Test}
 use Rattle.icode.specs.declared.instruction.Test.TheVariants as test
 use Rattle.icode.specs.declared.code.Routine.{Routine}
 use Rattle.icode.specs.declared.code.Routine.TheVariants as routine
 use Rattle.icode.specs.declared.code.Word.{Word}
 use Rattle.icode.specs.declared.code.Word.TheVariants.{Value, Return}
-use Rattle.icode.specs.Machine.{Context, At, operated, computed, with_value, value_in, value_on_top, return_on_top, loaded, stored, left, finished, switched, address, found, jumped, run, run_at, does, stands}
+use Rattle.icode.specs.Machine.{Context, At, operated, computed, with_value, value_in, value_on_top, return_on_top, loaded, stored, with_low, left, finished, switched, address, found, jumped, run, run_at, does, stands, settled, of_bytes}
 use Rattle.icode.specs.Runs.{Leads, Comes}
 
 module _ (Inside : Routine → Type 0) (nowhere : Inside routine.Nowhere) where
@@ -89,6 +93,9 @@ module _ (Inside : Routine → Type 0) (nowhere : Inside routine.Nowhere) where
     jumped_stays o test.Odd r p q a ws f g = (f, g)
     jumped_stays o (test.Constant c k) r p q a ws f g = (f, g)
     jumped_stays o (test.Plain c read x) r p q a ws f g = loaded_stays o read (found offsets sizes read x (address offsets sizes x 0)) (λ v. At r (if stands c a v then p else q) a ws) (λ v. (f, g))
+    jumped_stays o (test.Low c (rights.Constant k)) r p q a ws f g = (f, g)
+    jumped_stays o (test.Low c (rights.Plain x)) r p q a ws f g = loaded_stays o widths.Byte (found offsets sizes widths.Byte x (address offsets sizes x 0)) (λ v. At r (if stands c (a % 256) v then p else q) a ws) (λ v. (f, g))
+    jumped_stays o (test.Low c rights.Top) r p q a ws f g = with_stays o (value_on_top ws) (λ v. Silent (At r (if stands c (v % 256) (a % 256) then p else q) a (drop 1 ws))) (λ v. (f, dropped_inside 1 ws g))
     jumped_stays o (test.Top c) r p q a ws f g = with_stays o (value_on_top ws) (λ v. Silent (At r (if stands c v a then p else q) a (drop 1 ws))) (λ v. (f, dropped_inside 1 ws g))
 
     finished_stays : (ws : List Word) → Stays (Some op.Finish) (finished ws)
@@ -103,6 +110,18 @@ module _ (Inside : Routine → Type 0) (nowhere : Inside routine.Nowhere) where
       run_stays (op.Load width x) r p a ws f g c = loaded_stays (Some (op.Load width x)) width (found offsets sizes width x (address offsets sizes x 0)) (λ v. At r p v ws) (λ v. (f, g))
       run_stays (op.LoadAt width x) r p a ws f g c = loaded_stays (Some (op.LoadAt width x)) width (found offsets sizes width x (address offsets sizes x a)) (λ v. At r p v ws) (λ v. (f, g))
       run_stays (op.LoadThere width) r p a ws f g c = loaded_stays (Some (op.LoadThere width)) width (held 0 offsets sizes a (bytes width)) (λ v. At r p v ws) (λ v. (f, g))
+      run_stays (op.Low (lows.Constant k) high) r p a ws f g c = (f, g)
+      run_stays (op.Low (lows.Load x) high) r p a ws f g c = loaded_stays (Some (op.Low (lows.Load x) high)) widths.Byte (found offsets sizes widths.Byte x (address offsets sizes x 0)) (λ v. At r p (settled high a v) ws) (λ v. (f, g))
+      run_stays (op.Low (lows.LoadAt x) high) r p a ws f g c = loaded_stays (Some (op.Low (lows.LoadAt x) high)) widths.Byte (found offsets sizes widths.Byte x (address offsets sizes x a)) (λ v. At r p (settled high a v) ws) (λ v. (f, g))
+      run_stays (op.Low lows.LoadThere high) r p a ws f g c = loaded_stays (Some (op.Low lows.LoadThere high)) widths.Byte (held 0 offsets sizes a 1) (λ v. At r p (settled high a v) ws) (λ v. (f, g))
+      run_stays (op.Low lows.Receive high) r p a ws f g c = λ v. (f, g)
+      run_stays (op.Low (lows.ReceiveFrom port) high) r p a ws f g c = λ v. (f, g)
+      run_stays (op.Low lows.High high) r p a ws f g c = (f, g)
+      run_stays (op.Low (lows.Operate o (rights.Constant k)) high) r p a ws f g c = (f, g)
+      run_stays (op.Low (lows.Operate o (rights.Plain x)) high) r p a ws f g c =
+          loaded_stays (Some (op.Low (lows.Operate o (rights.Plain x)) high)) widths.Byte (found offsets sizes widths.Byte x (address offsets sizes x 0)) (λ v. At r p (of_bytes o high a v) ws) (λ v. (f, g))
+      run_stays (op.Low (lows.Operate o rights.Top) high) r p a ws f g c =
+          with_stays (Some (op.Low (lows.Operate o rights.Top) high)) (value_on_top ws) (λ v. Silent (At r p (of_bytes o high v (a % 256)) (drop 1 ws))) (λ v. (f, dropped_inside 1 ws g))
       run_stays op.Push r p a ws f g c = (f, (tt, g))
       run_stays (op.Pick n) r p a ws f g c = with_stays (Some (op.Pick n)) (value_in (slice_get ws n)) (λ v. Silent (At r p v ws)) (λ v. (f, g))
       run_stays (op.Drop n) r p a ws f g c = either (Some (op.Drop n)) (nat_le n (length ws)) (At r p a (drop n ws)) (f, dropped_inside n ws g)
@@ -119,6 +138,9 @@ module _ (Inside : Routine → Type 0) (nowhere : Inside routine.Nowhere) where
       run_stays (op.StoreThere width) r p a ws f g c =
           with_stays (Some (op.StoreThere width)) (value_on_top ws) (λ v. stored width (held 0 offsets sizes a (bytes width)) v (At r p v (drop 1 ws)))
           (λ v. stored_stays (Some (op.StoreThere width)) width (held 0 offsets sizes a (bytes width)) v (At r p v (drop 1 ws)) (f, dropped_inside 1 ws g))
+      run_stays (op.StoreTop width x) r p a ws f g c =
+          with_stays (Some (op.StoreTop width x)) (value_on_top ws) (λ v. stored width (found offsets sizes width x (address offsets sizes x 0)) v (At r p a (drop 1 ws)))
+          (λ v. stored_stays (Some (op.StoreTop width x)) width (found offsets sizes width x (address offsets sizes x 0)) v (At r p a (drop 1 ws)) (f, dropped_inside 1 ws g))
       run_stays (op.Send width) r p a ws f g c = sent ws g
         where
           sent : (ws : List Word) → AreInside ws → Stays (Some (op.Send width)) (run offsets sizes all (op.Send width) r p a ws)
@@ -132,6 +154,8 @@ module _ (Inside : Routine → Type 0) (nowhere : Inside routine.Nowhere) where
       run_stays (op.AheadUnless t n) r p a ws f g c = jumped_stays (Some (op.AheadUnless t n)) t r p (p + n) a ws f g
       run_stays (op.Back n) r p a ws f g c = (f, g)
       run_stays (op.BackUnless t n) r p a ws f g c = jumped_stays (Some (op.BackUnless t n)) t r p (p - n) a ws f g
+      run_stays (op.Next width x s n) r p a ws f g c =
+          stored_stays (Some (op.Next width x s n)) width (found offsets sizes width x (address offsets sizes x 0)) (a + s) (At r (if nat_lt (low width (a + s)) s then p else p - n) (with_low width a (a + s)) ws) (f, g)
       run_stays (op.Switch n) r p a ws f g c = switch_stays (Some (op.Switch n)) (nat_lt a n) (slice_get all (p + a)) r (p + suc a) (p + n) a ws f g
       run_stays (op.Case n) r p a ws f g c = tt
       run_stays (op.Invoke q) r p a ws f g c = (c q refl, (f, g))

@@ -15,8 +15,8 @@ use Rattle.icode.specs.declared.code.Word.TheVariants.{Return}
 use Rattle.icode.specs.Machine.{At}
 use Rattle.icode.specs.Code.{procedure_or_none}
 use Rattle.lower.specs.Expressions.{are_giving}
-use Rattle.lower.specs.Statements.{OfMain, Called, Giving, Serving, are_silent, statements_code, routine_code}
-use Rattle.lower.specs.Lowering.{kind_of, serves, MayBeEntered, procedure_code, code}
+use Rattle.lower.specs.Statements.{all_stay, ended_by, OfMain, Called, Giving, Serving, statements_code, routine_code}
+use Rattle.lower.specs.Lowering.{kind_of, serves, procedure_code, code, MayBeEntered}
 use Rattle.plm_type.specs.Programs.{body_for}
 use Rattle.lower.specs.Well.{AreStatements}
 use Rattle.lower.specs.Tracking.{IsProgram, CodeTracks, LoweringTracks}
@@ -24,10 +24,10 @@ use Rattle.std.specs.Prelude.{get_or}
 use Rattle.std.proofs.lemmas.Option.{slice_get-get_or, same_Some, none-some}
 use Rattle.lower.proofs.Setting.{Setting}
 use Rattle.lower.proofs.Sim.{N, T, S, eased, then_, down, both, halts_more, ends}
-use Rattle.lower.proofs.Holes.{IsHole, in_running, in_main, in_handler, acts, HasAt, has_front, has_back}
+use Rattle.lower.proofs.Holes.{IsHole, in_running, in_main, in_handler, acts, HasAt}
 use Rattle.lower.proofs.Exprs.{Left, ProcedureRuns}
 use Rattle.lower.proofs.Leads.{leads}
-use Rattle.lower.proofs.Stmts.{arm_runs, statements_sim}
+use Rattle.lower.proofs.Stmts.{whole_runs}
 use Rattle.lower.proofs.Placed.{finds_in, low_in}
 use Rattle.lower.proofs.Ordered.{statements_all, called_before}
 
@@ -66,18 +66,16 @@ module _ (x : Setting) (serves : ℕ → Bool) (rank : ℕ → ℕ)
       let kind : kind_of (serves q) (are_giving body) ≡ Giving = ap (λ b. kind_of b (are_giving body)) unserving ∙ ap (kind_of false) g in
       let good : AreStatements x.sizes x.procedures MayCall Giving body = subst (λ k. AreStatements x.sizes x.procedures MayCall k body) kind (bodies q procedure got) in
       let cb = statements_code x.procedures Giving 0 body in
-      let has : HasAt (x.code me) 0 (cb ++ op.Constant 0 ∷ op.Leave ∷ []) = subst (λ k. HasAt (x.code me) 0 (routine_code x.procedures k body)) kind (coded q procedure got) in
-      let hb = has_back (x.code me) 0 cb (op.Constant 0 ∷ op.Leave ∷ []) has in
+      let has : HasAt (x.code me) 0 (cb ++ ended_by (all_stay body) Giving) = subst (λ k. HasAt (x.code me) 0 (routine_code x.procedures k body)) kind (coded q procedure got) in
       let pe = 0 + length cb in
       let taken : (ss : Statements) (v q : ℕ) → v < 65536 → N x (D ss) ≡ Silent (C (Value v)) → slice_get (x.code me) q ≡ Some op.Leave → S x 1 n 0 (D ss) (At me q v st) = λ ss v q lt u h.
       both x 0 n 0 (D ss) (C (Value v)) (At me q v st) (At r p v ws) u (acts x me q v st op.Leave h) (then_ x x.room n 2 2 (C (Value v)) (At r p v ws) (omega arith) (omega arith) (after v lt)) in
-      let end : (f : ℕ) → 1 ≤ f → f ≤ 2 → (b : ℕ) → S x 1 n f (D End) (At me pe b st) = λ f le up b.
+      let end : HasAt (x.code me) pe (op.Constant 0 ∷ op.Leave ∷ []) → (f : ℕ) → 1 ≤ f → f ≤ 2 → (b : ℕ) → S x 1 n f (D End) (At me pe b st) = λ hb f le up b.
       eased x 1 1 n 1 f (D End) (At me pe b st) (omega arith) le
       (down x 1 n 0 (D End) (At me pe b st) (At me (pe + 1) 0 st) (acts x me pe b st (op.Constant 0) hb.0)
       (then_ x 1 n 0 0 (D End) (At me (pe + 1) 0 st) (omega arith) (omega arith) (taken End 0 (pe + 1) (omega arith) (cx (Running End) refl) hb.1.0))) in
-      let sim = arm_runs x MayCall calls Giving me D (in_running x C cx) st body (statements_sim x MayCall calls Giving me D (in_running x C cx) st body good) (are_silent body) refl
-      n (λ v q lt h. taken (Returned v) v q lt (cx (Running (Returned v)) refl) h) 0 End 0 1 (omega (arith, roomy q procedure got)) (has_front (x.code me) 0 cb (op.Constant 0 ∷ op.Leave ∷ []) has)
-      (end 2 (omega arith) (omega arith)) (λ b. subst (λ q. S x 1 n 1 (D End) (At me q b st)) (omega arith) (end 1 (omega arith) (omega arith) b)) in
+      let sim = whole_runs x MayCall calls Giving me D (in_running x C cx) st body good (all_stay body) refl n (λ v q lt h. taken (Returned v) v q lt (cx (Running (Returned v)) refl) h) 1 (omega (arith, roomy q procedure got)) has
+      (λ hb. (end hb 2 (omega arith) (omega arith), λ b. subst (λ q. S x 1 n 1 (D End) (At me q b st)) (omega arith) (end hb 1 (omega arith) (omega arith) b))) in
       eased x (1 + leads body) x.room n 2 2 (C (Running body)) (At me 0 a st) (omega (arith, roomy q procedure got)) (omega arith)
       (subst (λ ss. S x (1 + leads body) n 2 (C (Running ss)) (At me 0 a st)) (behind_end body) (sim a))
   body_sim q procedure got unserving calls false g n C cx r p ws after a =
@@ -89,14 +87,12 @@ module _ (x : Setting) (serves : ℕ → Bool) (rank : ℕ → ℕ)
       let kind : kind_of (serves q) (are_giving body) ≡ Called = ap (λ b. kind_of b (are_giving body)) unserving ∙ ap (kind_of false) g in
       let good : AreStatements x.sizes x.procedures MayCall Called body = subst (λ k. AreStatements x.sizes x.procedures MayCall k body) kind (bodies q procedure got) in
       let cb = statements_code x.procedures Called 0 body in
-      let has : HasAt (x.code me) 0 (cb ++ op.Leave ∷ []) = subst (λ k. HasAt (x.code me) 0 (routine_code x.procedures k body)) kind (coded q procedure got) in
-      let hb = has_back (x.code me) 0 cb (op.Leave ∷ []) has in
+      let has : HasAt (x.code me) 0 (cb ++ ended_by (all_stay body) Called) = subst (λ k. HasAt (x.code me) 0 (routine_code x.procedures k body)) kind (coded q procedure got) in
       let pe = 0 + length cb in
       let back : (ss : Statements) (q b : ℕ) → N x (D ss) ≡ Silent (C (Value 0)) → slice_get (x.code me) q ≡ Some op.Leave → S x 1 n 1 (D ss) (At me q b st) = λ ss q b u h. after (D ss) (At me q b st) b u (acts x me q b st op.Leave h) in
-      let end : (f : ℕ) → 1 ≤ f → (b : ℕ) → S x 1 n f (D End) (At me pe b st) = λ f le b. eased x 1 1 n 1 f (D End) (At me pe b st) (omega arith) le (back End pe b (cx (Running End) refl) hb.0) in
-      let sim = arm_runs x MayCall calls Called me D (in_running x C cx) st body (statements_sim x MayCall calls Called me D (in_running x C cx) st body good) (are_silent body) refl
-      n (λ q b h. back (Returned 0) q b (cx (Running (Returned 0)) refl) h) 0 End 0 1 (omega (arith, roomy q procedure got)) (has_front (x.code me) 0 cb (op.Leave ∷ []) has)
-      (end 2 (omega arith)) (λ b. subst (λ q. S x 1 n 1 (D End) (At me q b st)) (omega arith) (end 1 (omega arith) b)) in
+      let end : HasAt (x.code me) pe (op.Leave ∷ []) → (f : ℕ) → 1 ≤ f → (b : ℕ) → S x 1 n f (D End) (At me pe b st) = λ hb f le b. eased x 1 1 n 1 f (D End) (At me pe b st) (omega arith) le (back End pe b (cx (Running End) refl) hb.0) in
+      let sim = whole_runs x MayCall calls Called me D (in_running x C cx) st body good (all_stay body) refl n (λ q b h. back (Returned 0) q b (cx (Running (Returned 0)) refl) h) 1 (omega (arith, roomy q procedure got)) has
+      (λ hb. (end hb 2 (omega arith), λ b. subst (λ q. S x 1 n 1 (D End) (At me q b st)) (omega arith) (end hb 1 (omega arith) b))) in
       eased x (1 + leads body) x.room n 2 2 (C (Running body)) (At me 0 a st) (omega (arith, roomy q procedure got)) (omega arith)
       (subst (λ ss. S x (1 + leads body) n 2 (C (Running ss)) (At me 0 a st)) (behind_end body) (sim a))
 
@@ -121,13 +117,10 @@ module _ (x : Setting) (serves : ℕ → Bool) (rank : ℕ → ℕ)
   pub main_tracks : (main : Statements) → AreStatements x.sizes x.procedures (λ p. serves p ≡ false) OfMain main → leads main + 5 ≤ x.room → HasAt (x.code routine.Main) 0 (routine_code x.procedures OfMain main) → (n a : ℕ) → T x n 2 (Main main) (At routine.Main 0 a [])
   main_tracks main good small has n a =
       let cb = statements_code x.procedures OfMain 0 main in
-      let tail = op.Halt ∷ op.Back 2 ∷ [] in
-      let hb = has_back (x.code routine.Main) 0 cb tail has in
       let pe = 0 + length cb in
       let MayCall = λ (p : ℕ). serves p ≡ false in
-      let end : (f q : ℕ) → pe ≡ q → (b : ℕ) → S x 0 n f (Main End) (At routine.Main q b []) = λ f q e b. subst (λ q. S x 0 n f (Main End) (At routine.Main q b [])) e (eased x 0 0 n 0 f (Main End) (At routine.Main pe b []) (omega arith) (omega arith) (main_end pe hb n b)) in
-      let sim = arm_runs x MayCall calls OfMain routine.Main Main (in_main x) [] main (statements_sim x MayCall calls OfMain routine.Main Main (in_main x) [] main good) (are_silent main) refl
-      n tt 0 End 0 0 (omega (arith, small)) (has_front (x.code routine.Main) 0 cb tail has) (end 2 pe refl) (end 1 (pe + 0) (omega arith)) in
+      let end : HasAt (x.code routine.Main) pe (op.Halt ∷ op.Back 2 ∷ []) → (f q : ℕ) → pe ≡ q → (b : ℕ) → S x 0 n f (Main End) (At routine.Main q b []) = λ hb f q e b. subst (λ q. S x 0 n f (Main End) (At routine.Main q b [])) e (eased x 0 0 n 0 f (Main End) (At routine.Main pe b []) (omega arith) (omega arith) (main_end pe hb n b)) in
+      let sim = whole_runs x MayCall calls OfMain routine.Main Main (in_main x) [] main good (all_stay main) refl n tt 0 (omega (arith, small)) has (λ hb. (end hb 2 pe refl, end hb 1 (pe + 0) (omega arith))) in
       then_ x (0 + leads main) n 2 2 (Main main) (At routine.Main 0 a []) (omega (arith, small)) (omega arith) (subst (λ ss. S x (0 + leads main) n 2 (Main ss) (At routine.Main 0 a [])) (behind_end main) (sim a))
 
   pub handler_tracks : (q : ℕ) (procedure : Procedure) → slice_get x.procedures q ≡ Some procedure → serves q ≡ true → (n a : ℕ) → T x n 2 (Handler procedure.body) (At (routine.Procedure q) 0 a [])
@@ -138,13 +131,12 @@ module _ (x : Setting) (serves : ℕ → Bool) (rank : ℕ → ℕ)
       let kind : kind_of (serves q) (are_giving body) ≡ Serving = ap (λ b. kind_of b (are_giving body)) ours in
       let good : AreStatements x.sizes x.procedures MayCall Serving body = subst (λ k. AreStatements x.sizes x.procedures MayCall k body) kind (bodies q procedure got) in
       let cb = statements_code x.procedures Serving 0 body in
-      let has : HasAt (x.code me) 0 (cb ++ op.Finish ∷ []) = subst (λ k. HasAt (x.code me) 0 (routine_code x.procedures k body)) kind (coded q procedure got) in
-      let hb = has_back (x.code me) 0 cb (op.Finish ∷ []) has in
+      let has : HasAt (x.code me) 0 (cb ++ ended_by (all_stay body) Serving) = subst (λ k. HasAt (x.code me) 0 (routine_code x.procedures k body)) kind (coded q procedure got) in
       let pe = 0 + length cb in
       let inner : (p : ℕ) → (serves p ≡ false) × (rank p < rank q) → ProcedureRuns x p = λ p may. calls p may.0 in
-      let end : (f q : ℕ) → pe ≡ q → (b : ℕ) → S x 0 n f (Handler End) (At me q b []) = λ f q e b. subst (λ q. S x 0 n f (Handler End) (At me q b [])) e (ends x 0 n f (Handler End) (At me pe b []) refl (acts x me pe b [] op.Finish hb.0)) in
-      let sim = arm_runs x MayCall inner Serving me Handler (in_handler x) [] body (statements_sim x MayCall inner Serving me Handler (in_handler x) [] body good) (are_silent body) refl
-      n (λ v p b h. ends x 0 n 0 (Handler (Returned v)) (At me p b []) refl (acts x me p b [] op.Finish h)) 0 End 0 0 (omega (arith, roomy q procedure got)) (has_front (x.code me) 0 cb (op.Finish ∷ []) has) (end 2 pe refl) (end 1 (pe + 0) (omega arith)) in
+      let end : HasAt (x.code me) pe (op.Finish ∷ []) → (f q : ℕ) → pe ≡ q → (b : ℕ) → S x 0 n f (Handler End) (At me q b []) = λ hb f q e b. subst (λ q. S x 0 n f (Handler End) (At me q b [])) e (ends x 0 n f (Handler End) (At me pe b []) refl (acts x me pe b [] op.Finish hb.0)) in
+      let sim = whole_runs x MayCall inner Serving me Handler (in_handler x) [] body good (all_stay body) refl n (λ v p b h. ends x 0 n 0 (Handler (Returned v)) (At me p b []) refl (acts x me p b [] op.Finish h)) 0 (omega (arith, roomy q procedure got)) has
+      (λ hb. (end hb 2 pe refl, end hb 1 (pe + 0) (omega arith))) in
       then_ x (0 + leads body) n 2 2 (Handler body) (At me 0 a []) (omega (arith, roomy q procedure got)) (omega arith) (subst (λ ss. S x (0 + leads body) n 2 (Handler ss) (At me 0 a [])) (behind_end body) (sim a))
 
   pub unserved_tracks : slice_get (x.code routine.Unserved) 0 ≡ Some op.Finish → (n a : ℕ) → T x n 2 (Handler End) (At routine.Unserved 0 a [])

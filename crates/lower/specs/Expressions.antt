@@ -1,9 +1,11 @@
 -- The code of expressions, references, calls and tests. An expression leaves its value in the accumulator, and the stack as it was.
-use Rattle.std.specs.Prelude.{ℕ, suc, ◌+◌, ◌%◌, Bool, true, false, ◌||◌, nat_eq, cond, List, [], ◌∷◌, ◌++◌, length, Option, Some, None, slice_get}
+use Rattle.std.specs.Prelude.{◌*◌, ℕ, suc, ◌+◌, ◌%◌, Bool, true, false, ◌||◌, nat_eq, cond, List, [], ◌∷◌, ◌++◌, length, Option, Some, None, slice_get}
 use Rattle.word86.specs.declared.width.Width.{Width}
 use Rattle.word86.specs.declared.width.Width.TheVariants as widths
+use Rattle.word86.specs.declared.operation.UnaryOperation.{UnaryOperation}
 use Rattle.word86.specs.declared.operation.BinaryOperation.{BinaryOperation}
 use Rattle.word86.specs.declared.operation.BinaryOperation.TheVariants as binary
+use Rattle.word86.specs.Operation.{unary_value, binary_value}
 use Rattle.word86.specs.declared.place.Place.{Place}
 use Rattle.word86.specs.declared.place.Place.TheVariants as places
 use Rattle.word86.specs.Access.{Where, In}
@@ -12,10 +14,44 @@ use Rattle.plm_type.specs.Rest.{Anchor, InObject, OnScreen, Behind, There, Scala
 use Rattle.plm_type.specs.Next.{parameters_of}
 use Rattle.icode.specs.declared.instruction.Instruction.{Instruction}
 use Rattle.icode.specs.declared.instruction.Instruction.TheVariants as op
+use Rattle.icode.specs.declared.instruction.LowByte.TheVariants as lows
+use Rattle.icode.specs.declared.instruction.High.TheVariants as highs
 use Rattle.icode.specs.declared.instruction.Relation.{Relation}
 use Rattle.icode.specs.declared.instruction.Relation.TheVariants as relation
 use Rattle.icode.specs.declared.instruction.Test.{Test}
 use Rattle.icode.specs.declared.instruction.Test.TheVariants as test
+
+-- ---- constants
+
+-- an operator's value where its operands have theirs
+abbrev pub unary_folded : UnaryOperation → Width → Option ℕ → Option ℕ
+unary_folded o width (Some v) = Some (unary_value o width v)
+unary_folded o width None = None
+
+abbrev pub binary_folded : BinaryOperation → Width → Option ℕ → Option ℕ → Option ℕ
+binary_folded o width (Some x) (Some y) = binary_value o width x y
+binary_folded o width (Some x) None = None
+binary_folded o width None y = None
+
+-- the value of an expression of constants, as the language means it; a division that has none is left as it is
+abbrev pub folded : Expression → Option ℕ
+folded (Constant k) = Some k
+folded (Unary o width e) = unary_folded o width (folded e)
+folded (Binary module_index line o width a b) = binary_folded o width (folded a) (folded b)
+folded (Plain width x) = None
+folded (Variable width r) = None
+folded (Location r) = None
+folded (Embedded t e) = None
+folded (Input width e) = None
+folded (Call p es) = None
+folded (Value v) = None
+folded (Passing p xs vs) = None
+folded (Running ss) = None
+
+-- the code of an expression, of which this is known before any run
+abbrev pub unless_known : Option ℕ → List Instruction → List Instruction
+unless_known (Some k) code = op.Constant k ∷ []
+unless_known None code = code
 
 -- ---- operands
 
@@ -29,13 +65,17 @@ pub data Operand : Type 0 where
   Name : Width → Place → Operand
   Computed : Operand
 
+abbrev pub number_of : Option ℕ → Operand
+number_of (Some k) = Number k
+number_of None = Computed
+
 abbrev pub operand_of : Expression → Operand
 operand_of (Constant k) = Number k
 operand_of (Plain width x) = Name width (place_of x)
 operand_of (Variable width r) = Computed
 operand_of (Location r) = Computed
-operand_of (Unary o width e) = Computed
-operand_of (Binary module_index line o width a b) = Computed
+operand_of (Unary o width e) = number_of (folded (Unary o width e))
+operand_of (Binary module_index line o width a b) = number_of (folded (Binary module_index line o width a b))
 operand_of (Embedded t e) = Computed
 operand_of (Input width e) = Computed
 operand_of (Call p es) = Computed
@@ -78,6 +118,35 @@ from_base base (Subscript stride e more) = op.BinaryPlain binary.Add widths.Word
 
 abbrev pub based : Where → ℕ → Subscripts → List Instruction
 based base offset ss = from_base base ss ∷ moved offset
+
+-- where constant subscripts lead from an offset
+abbrev pub constant_of : Expression → Option ℕ
+constant_of (Constant k) = Some k
+constant_of (Plain width x) = None
+constant_of (Variable width r) = None
+constant_of (Location r) = None
+constant_of (Unary o width e) = None
+constant_of (Binary module_index line o width a b) = None
+constant_of (Embedded t e) = None
+constant_of (Input width e) = None
+constant_of (Call p es) = None
+constant_of (Value v) = None
+constant_of (Passing p xs vs) = None
+constant_of (Running ss) = None
+
+abbrev pub further_on : (offset stride : ℕ) → Option ℕ → Option ℕ
+further_on offset stride (Some k) = Some ((offset + stride * k) % 65536)
+further_on offset stride None = None
+
+abbrev pub leads_to : Option ℕ → Subscripts → Option ℕ
+leads_to None ss = None
+leads_to (Some offset) NoSubscripts = Some offset
+leads_to (Some offset) (Subscript stride e more) = leads_to (further_on offset stride (constant_of e)) more
+
+-- by where constant subscripts lead, if these are
+abbrev pub by_offset : Option ℕ → (known : ℕ → List Instruction) → (computed : List Instruction) → List Instruction
+by_offset (Some offset) known computed = known offset
+by_offset None known computed = computed
 
 -- what is read and located once the subscripts are added; a variable without any lies at a fixed place
 abbrev pub reading : Width → Anchor → ℕ → Subscripts → List Instruction
@@ -128,20 +197,44 @@ abbrev pub passing : List Scalar → List Instruction
 passing [] = []
 passing (x ∷ xs) = op.Pick (length xs) ∷ op.Store x.width (place_of x.place) ∷ passing xs
 
--- the first parameter gets the accumulator
-abbrev pub alone : List Scalar → List Instruction
-alone [] = []
-alone (x ∷ xs) = op.Store x.width (place_of x.place) ∷ []
+abbrev pub stored_in : Scalar → Instruction
+stored_in x = op.Store x.width (place_of x.place)
+
+-- an argument for a parameter of a width, of which this is the code: of a constant and of a plain BYTE the low byte is enough for a BYTE
+abbrev pub argument_code : Width → Operand → List Instruction → List Instruction
+argument_code widths.Byte (Number k) code = op.Low (lows.Constant k) highs.Kept ∷ []
+argument_code widths.Byte (Name widths.Byte y) code = op.Low (lows.Load y) highs.Kept ∷ []
+argument_code widths.Byte (Name widths.Word y) code = code
+argument_code widths.Byte Computed code = code
+argument_code widths.Word o code = code
+
+-- an argument alone
+abbrev pub alone : List Scalar → Operand → List Instruction → List Instruction
+alone [] o code = code
+alone (x ∷ xs) o code = argument_code x.width o code ++ stored_in x ∷ []
+
+-- The second of two arguments, and the parameters get both, the first one first. Where the second one is a constant, which is no step that is
+-- seen, the first one is stored at once.
+abbrev pub second_passed : (one other : Scalar) → Operand → List Instruction → List Instruction
+second_passed x y (Number k) code = stored_in x ∷ (argument_code y.width (Number k) code ++ stored_in y ∷ [])
+second_passed x y (Name read z) code = op.Push ∷ (argument_code y.width (Name read z) code ++ (op.StoreTop x.width (place_of x.place) ∷ stored_in y ∷ []))
+second_passed x y Computed code = op.Push ∷ (code ++ (op.StoreTop x.width (place_of x.place) ∷ stored_in y ∷ []))
+
+abbrev pub pair : List Scalar → (one other : Operand) → (first second : List Instruction) → List Instruction
+pair [] o q first second = []
+pair (x ∷ []) o q first second = []
+pair (x ∷ y ∷ xs) o q first second = argument_code x.width o first ++ second_passed x y q second
 
 abbrev pub count_of : Expressions → ℕ
 count_of NoMore = 0
 count_of (More e es) = suc (count_of es)
 
--- one argument alone is not pushed
-abbrev pub call_code : ℕ → List Scalar → Expressions → (first pushed : List Instruction) → List Instruction
-call_code p xs NoMore first pushed = op.Invoke p ∷ []
-call_code p xs (More e NoMore) first pushed = first ++ (alone xs ++ op.Invoke p ∷ [])
-call_code p xs (More e (More f es)) first pushed = pushed ++ (passing xs ++ op.Drop (2 + count_of es) ∷ op.Invoke p ∷ [])
+-- one argument alone is not pushed, and of two at most the first one
+abbrev pub call_code : ℕ → List Scalar → Expressions → (first second pushed : List Instruction) → List Instruction
+call_code p xs NoMore first second pushed = op.Invoke p ∷ []
+call_code p xs (More e NoMore) first second pushed = alone xs (operand_of e) first ++ op.Invoke p ∷ []
+call_code p xs (More e (More f NoMore)) first second pushed = pair xs (operand_of e) (operand_of f) first second ++ op.Invoke p ∷ []
+call_code p xs (More e (More f (More g es))) first second pushed = pushed ++ (passing xs ++ op.Drop (3 + count_of es) ∷ op.Invoke p ∷ [])
 
 -- whether a RETURN in a statement has a value
 abbrev mutual
@@ -216,42 +309,21 @@ stands_to o (Number k) = test.Constant o k
 stands_to o (Name read x) = test.Plain o read x
 stands_to o Computed = test.Top o
 
--- a relation is the jump's own test; of every other condition the lowest bit counts
-abbrev pub asked : Option Relation → Operand → Test
-asked (Some o) right = stands_to o right
-asked None right = test.Odd
-
-abbrev pub test_of : Expression → Test
-test_of (Binary module_index line o width a b) = asked (relation_of o) (operand_of b)
-test_of (Constant k) = test.Odd
-test_of (Plain width x) = test.Odd
-test_of (Variable width r) = test.Odd
-test_of (Location r) = test.Odd
-test_of (Unary o width e) = test.Odd
-test_of (Embedded t e) = test.Odd
-test_of (Input width port) = test.Odd
-test_of (Call p es) = test.Odd
-test_of (Value v) = test.Odd
-test_of (Passing p xs vs) = test.Odd
-test_of (Running ss) = test.Odd
-
-abbrev pub asking : Option Relation → (left right whole : List Instruction) → List Instruction
-asking (Some o) left right whole = left ++ right
-asking None left right whole = whole
-
 module _ (procedures : List Procedure) where
   abbrev mutual
     pub expression_code : Expression → List Instruction
     expression_code (Constant k) = op.Constant k ∷ []
     expression_code (Plain width x) = op.Load width (place_of x) ∷ []
-    expression_code (Variable width (Refer module_index line anchor offset ss)) = subscripts_code ss ++ reading width anchor offset ss
-    expression_code (Location (Refer module_index line anchor offset ss)) = subscripts_code ss ++ locating anchor offset ss
-    expression_code (Unary o width e) = expression_code e ++ op.Unary o width ∷ []
+    expression_code (Variable width (Refer module_index line anchor offset ss)) =
+        by_offset (leads_to (Some offset) ss) (λ to. reading width anchor to NoSubscripts) (subscripts_code ss ++ reading width anchor offset ss)
+    expression_code (Location (Refer module_index line anchor offset ss)) =
+        by_offset (leads_to (Some offset) ss) (λ to. locating anchor to NoSubscripts) (subscripts_code ss ++ locating anchor offset ss)
+    expression_code (Unary o width e) = unless_known (folded (Unary o width e)) (expression_code e ++ op.Unary o width ∷ [])
     expression_code (Binary module_index line o width a b) =
-        expression_code a ++ (beside (operand_of b) (expression_code b) ++ operation o width (operand_of b) ∷ [])
+        unless_known (folded (Binary module_index line o width a b)) (expression_code a ++ (beside (operand_of b) (expression_code b) ++ operation o width (operand_of b) ∷ []))
     expression_code (Embedded t e) = expression_code e ++ target_code t
     expression_code (Input width port) = receiving width (operand_of port) (expression_code port)
-    expression_code (Call p es) = call_code p (parameters_of (slice_get procedures p)) es (first_code es) (pushed_code es) ++ used (gives (slice_get procedures p))
+    expression_code (Call p es) = call_code p (parameters_of (slice_get procedures p)) es (first_code es) (second_code es) (pushed_code es) ++ used (gives (slice_get procedures p))
     expression_code (Value v) = []
     expression_code (Passing p xs vs) = []
     expression_code (Running ss) = []
@@ -259,6 +331,10 @@ module _ (procedures : List Procedure) where
     pub first_code : Expressions → List Instruction
     first_code NoMore = []
     first_code (More e es) = expression_code e
+
+    pub second_code : Expressions → List Instruction
+    second_code NoMore = []
+    second_code (More e es) = first_code es
 
     pub pushed_code : Expressions → List Instruction
     pushed_code NoMore = []
@@ -276,11 +352,12 @@ module _ (procedures : List Procedure) where
     -- the target gets the value in the accumulator, which is there afterwards
     pub target_code : Target → List Instruction
     target_code (ToPlain width x) = op.Store width (place_of x) ∷ []
-    target_code (ToVariable width (Refer module_index line anchor offset ss)) = writing width anchor offset ss (subscripts_code ss)
+    target_code (ToVariable width (Refer module_index line anchor offset ss)) =
+        by_offset (leads_to (Some offset) ss) (λ to. writing width anchor to NoSubscripts []) (writing width anchor offset ss (subscripts_code ss))
     target_code (ToPort width port) = sending width (operand_of port) (expression_code port)
 
   abbrev pub calling : ℕ → Expressions → List Instruction
-  calling p es = call_code p (parameters_of (slice_get procedures p)) es (first_code es) (pushed_code es)
+  calling p es = call_code p (parameters_of (slice_get procedures p)) es (first_code es) (second_code es) (pushed_code es)
 
   -- of a value that is dropped
   abbrev pub dropped_code : Expression → List Instruction
@@ -300,19 +377,3 @@ module _ (procedures : List Procedure) where
   abbrev pub targets_code : Targets → List Instruction
   targets_code (Only t) = target_code t
   targets_code (Also t ts) = target_code t ++ targets_code ts
-
-  -- what is computed before a test
-  abbrev pub condition_code : Expression → List Instruction
-  condition_code (Binary module_index line o width a b) =
-      asking (relation_of o) (expression_code a) (beside (operand_of b) (expression_code b)) (expression_code (Binary module_index line o width a b))
-  condition_code (Constant k) = expression_code (Constant k)
-  condition_code (Plain width x) = expression_code (Plain width x)
-  condition_code (Variable width r) = expression_code (Variable width r)
-  condition_code (Location r) = expression_code (Location r)
-  condition_code (Unary o width e) = expression_code (Unary o width e)
-  condition_code (Embedded t e) = expression_code (Embedded t e)
-  condition_code (Input width port) = expression_code (Input width port)
-  condition_code (Call p es) = expression_code (Call p es)
-  condition_code (Value v) = expression_code (Value v)
-  condition_code (Passing p xs vs) = expression_code (Passing p xs vs)
-  condition_code (Running ss) = expression_code (Running ss)

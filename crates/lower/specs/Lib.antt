@@ -1,7 +1,9 @@
 pub mod Checked
+pub mod Conditions
 pub mod Expressions
 pub mod Heights
 pub mod Inner
+pub mod LowBytes
 pub mod Lowering
 pub mod Room
 pub mod Runs

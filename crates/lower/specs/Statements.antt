@@ -4,19 +4,22 @@ use Rattle.word86.specs.declared.width.Width.{Width}
 use Rattle.word86.specs.declared.width.Width.TheVariants as widths
 use Rattle.word86.specs.declared.operation.UnaryOperation.TheVariants as unary
 use Rattle.word86.specs.declared.operation.BinaryOperation.TheVariants as binary
-use Rattle.word86.specs.Access.{Where}
 use Rattle.plm_type.specs.declared.program.Counting.{Counting}
 use Rattle.plm_type.specs.declared.program.Counting.TheVariants as counting
-use Rattle.plm_type.specs.Rest.{Scalar, Count, Statement, Empty, Assign, Evaluate, Return, ReturnValue, Enabling, Disabling, Halting, If, Block, While, Case, Iterate, Leaving, Round, Comparing, Stepping, Adding, Storing, Ending, Statements, End, Then, Returned, Procedure}
+use Rattle.plm_type.specs.Rest.{Expression, Scalar, Count, Statement, Empty, Assign, Evaluate, Return, ReturnValue, Enabling, Disabling, Halting, If, Block, While, Case, Iterate, Leaving, Round, Comparing, Stepping, Adding, Storing, Ending, Statements, End, Then, Returned, Procedure}
 use Rattle.icode.specs.declared.instruction.Instruction.{Instruction}
 use Rattle.icode.specs.declared.instruction.Instruction.TheVariants as op
+use Rattle.icode.specs.declared.instruction.LowByte.TheVariants as lows
+use Rattle.icode.specs.declared.instruction.High.TheVariants as highs
 use Rattle.icode.specs.declared.instruction.Relation.{Relation}
 use Rattle.icode.specs.declared.instruction.Relation.TheVariants as relation
 use Rattle.icode.specs.declared.instruction.Test.{Test}
 use Rattle.icode.specs.declared.instruction.Test.TheVariants as test
 pub use Rattle.lower.specs.declared.kind.Kind.{Kind}
 pub use Rattle.lower.specs.declared.kind.Kind.TheVariants.{OfMain, Called, Giving, Serving}
-use Rattle.lower.specs.Expressions.{Computed, Name, Number, Operand, beside, condition_code, dropped_code, expression_code, gives, operand_of, place_of, stands_to, targets_code, test_of}
+use Rattle.lower.specs.Expressions.{Computed, Name, Number, Operand, beside, dropped_code, expression_code, operand_of, place_of, targets_code}
+use Rattle.lower.specs.LowBytes.{given_code, returned_code, low_code, low_load, is_narrow, is_byte}
+use Rattle.lower.specs.Conditions.{condition_code, test_of, always, compared, related}
 
 -- ---- statements
 
@@ -37,24 +40,21 @@ within counting.Up = relation.LessEqual
 within counting.SignedUp = relation.LessEqualSigned
 within counting.SignedDown = relation.GreaterEqualSigned
 
--- A sum left the range of the index where it stands in this relation to this number: a BYTE or WORD where it is below the step, an
--- INTEGER, by a step of s, where it is below s - 32,768, or, where s is negative, above s + 32,767.
-abbrev pub left_in : Counting → Relation
-left_in counting.Up = relation.Less
-left_in counting.SignedUp = relation.LessSigned
-left_in counting.SignedDown = relation.GreaterSigned
-
-abbrev pub left_from : Counting → (step : ℕ) → ℕ
-left_from counting.Up s = s
-left_from counting.SignedUp s = (s + 32768) % 65536
-left_from counting.SignedDown s = (s + 32767) % 65536
-
 -- The end of a round: the step is added, and unless the sum left the range of the index a next round begins `before` instructions back.
 -- A constant step is an operand, as each one of an INTEGER is; every other one is pushed twice.
-abbrev pub next_by_number : Counting → Scalar → (step before : ℕ) → List Instruction
-next_by_number o x s before =
+
+-- of an INTEGER, whose sum left its range where it stands in this relation to this number
+abbrev pub next_with_sign : (left : Relation) (from : ℕ) → Scalar → (step before : ℕ) → List Instruction
+next_with_sign left from x s before =
     op.Load x.width (place_of x.place) ∷ op.BinaryConstant binary.Add x.width s ∷ op.Store x.width (place_of x.place)
-    ∷ op.BackUnless (test.Constant (left_in o) (left_from o s)) (before + 4) ∷ []
+    ∷ op.BackUnless (test.Constant left from) (before + 4) ∷ []
+
+-- A BYTE or WORD has one instruction for it. An INTEGER left its range by a step of s where the sum is below s - 32,768, or, where s is
+-- negative, above s + 32,767.
+abbrev pub next_by_number : Counting → Scalar → (step before : ℕ) → List Instruction
+next_by_number counting.Up x s before = low_load x.width (place_of x.place) ∷ op.Next x.width (place_of x.place) s (before + 2) ∷ []
+next_by_number counting.SignedUp x s before = next_with_sign relation.LessSigned ((s + 32768) % 65536) x s before
+next_by_number counting.SignedDown x s before = next_with_sign relation.GreaterSigned ((s + 32767) % 65536) x s before
 
 abbrev pub add_pushed : Scalar → (before : ℕ) → List Instruction
 add_pushed x before =
@@ -65,6 +65,15 @@ abbrev pub next_round : Counting → Scalar → Operand → List Instruction →
 next_round o x (Number s) code before = next_by_number o x s before
 next_round o x (Name read y) code before = code ++ add_pushed x (before + length code)
 next_round o x Computed code before = code ++ add_pushed x (before + length code)
+
+-- whether a BYTE index is compared with a byte
+abbrev pub counts_bytes : Scalar → (bound : Expression) → Bool
+counts_bytes x bound = is_narrow x.width && is_byte bound
+
+-- the index, before it is compared
+abbrev pub index_read : (bytes : Bool) → Scalar → Instruction
+index_read true x = op.Low (lows.Load (place_of x.place)) highs.Kept
+index_read false x = op.Load x.width (place_of x.place)
 
 -- a statement without code: nothing stands for the empty one, nor for a block of such
 abbrev mutual
@@ -94,6 +103,11 @@ abbrev mutual
   are_silent End = true
   are_silent (Then s later) = is_silent s && are_silent later
   are_silent (Returned v) = false
+
+-- DO WHILE, without a test where its condition always holds
+abbrev pub while_loop : (always : Bool) (condition : List Instruction) → Test → (body : List Instruction) (exit : ℕ) → List Instruction
+while_loop true condition t body exit = body ++ op.Back (length body + 1) ∷ []
+while_loop false condition t body exit = condition ++ (op.AheadUnless t (length body + 1 + exit) ∷ (body ++ op.Back (length condition + length body + 2) ∷ []))
 
 -- after an arm, a jump over what is done otherwise, if anything is
 abbrev pub over : (silent : Bool) (otherwise : List Instruction) (exit : ℕ) → List Instruction
@@ -134,10 +148,10 @@ module _ (procedures : List Procedure) (around : Kind) where
   abbrev mutual
     pub statement_code : (exit : ℕ) → Statement → List Instruction
     statement_code exit Empty = []
-    statement_code exit (Assign ts e) = expression_code procedures e ++ targets_code procedures ts
+    statement_code exit (Assign ts e) = given_code procedures ts e ++ targets_code procedures ts
     statement_code exit (Evaluate e) = dropped_code procedures e
     statement_code exit Return = returning around
-    statement_code exit (ReturnValue width e) = expression_code procedures e ++ (narrowed width ++ op.Leave ∷ [])
+    statement_code exit (ReturnValue width e) = returned_code procedures width e ++ (narrowed width ++ op.Leave ∷ [])
     statement_code exit Enabling = op.Enable ∷ []
     statement_code exit Disabling = op.Disable ∷ []
     statement_code exit Halting = op.Halt ∷ []
@@ -146,18 +160,16 @@ module _ (procedures : List Procedure) (around : Kind) where
         let arm_exit = length (over (are_silent other) otherwise exit) + length otherwise + exit in
         choosing (condition_code procedures c) (test_of c) (statements_code arm_exit arm) (are_silent other) otherwise exit
     statement_code exit (Block ss) = statements_code exit ss
-    statement_code exit (While c d ss) =
-        let condition = condition_code procedures d in
-        let body = statements_code 0 ss in
-        condition ++ (op.AheadUnless (test_of d) (length body + 1 + exit) ∷ (body ++ op.Back (length condition + length body + 2) ∷ []))
+    statement_code exit (While c d ss) = while_loop (always d) (condition_code procedures d) (test_of d) (statements_code 0 ss) exit
     statement_code exit (Case e ss) = expression_code procedures e ++ switching (cases_code exit ss) exit
     statement_code exit (Iterate a (Count o x bound step ss)) =
-        let compared = beside (operand_of bound) (expression_code procedures bound) in
+        let bytes = counts_bytes x bound in
+        let comparison = compared bytes (beside (operand_of bound) (low_code procedures bound)) (beside (operand_of bound) (expression_code procedures bound)) in
         let body = statements_code 0 ss in
-        let again = next_round o x (operand_of step) (expression_code procedures step) (length compared + length body + 2) in
-        expression_code procedures a
-        ++ (op.Store x.width (place_of x.place) ∷ op.Load x.width (place_of x.place)
-        ∷ (compared ++ (op.AheadUnless (stands_to (within o) (operand_of bound)) (length body + length again + exit) ∷ (body ++ again))))
+        let again = next_round o x (operand_of step) (expression_code procedures step) (length comparison + length body + 2) in
+        returned_code procedures x.width a
+        ++ (op.Store x.width (place_of x.place) ∷ index_read bytes x
+        ∷ (comparison ++ (op.AheadUnless (related bytes (within o) (operand_of bound)) (length body + length again + exit) ∷ (body ++ again))))
     statement_code exit Leaving = []
     statement_code exit (Round l) = []
     statement_code exit (Comparing i e l) = []
@@ -188,5 +200,39 @@ ending Called = returning Called
 ending Giving = returning Giving
 ending Serving = returning Serving
 
+-- whether control never comes to the end of statements: the last one is a RETURN with a value, or goes on for ever
+abbrev pub stays : Statement → Bool
+stays (ReturnValue width e) = true
+stays (While c d ss) = always d
+stays Empty = false
+stays (Assign ts e) = false
+stays (Evaluate e) = false
+stays Return = false
+stays Enabling = false
+stays Disabling = false
+stays Halting = false
+stays (If c arm other) = false
+stays (Block ss) = false
+stays (Case e ss) = false
+stays (Iterate a l) = false
+stays Leaving = false
+stays (Round l) = false
+stays (Comparing i e l) = false
+stays (Stepping e l) = false
+stays (Adding i s l) = false
+stays (Storing s leaves l) = false
+stays (Ending leaves l) = false
+
+abbrev pub all_stay : Statements → Bool
+all_stay End = false
+all_stay (Then s End) = stays s
+all_stay (Then s (Then t later)) = all_stay (Then t later)
+all_stay (Then s (Returned v)) = false
+all_stay (Returned v) = false
+
+abbrev pub ended_by : (stays : Bool) → Kind → List Instruction
+ended_by true around = []
+ended_by false around = ending around
+
 abbrev pub routine_code : List Procedure → Kind → Statements → List Instruction
-routine_code procedures around ss = statements_code procedures around 0 ss ++ ending around
+routine_code procedures around ss = statements_code procedures around 0 ss ++ ended_by (all_stay ss) around

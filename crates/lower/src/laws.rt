@@ -34,14 +34,14 @@ pub fn checked_runs_are_allowed()
     ensures { RunsLaw }
 {}
 
-/// The code of a checked program whose trees are well formed takes at most 46 bytes of a ROM for each node of the program, and 5 for
+/// The code of a checked program whose trees are well formed takes at most 41 bytes of a ROM for each node of the program, and 5 for
 /// main's end; 12 bytes for each procedure are left of that.
 pub fn code_has_room()
     ensures { RoomLaw }
 {}
 
-/// Nowhere in a program's code are more values pushed than a statement of the program, without the statements inside it, has
-/// constants and references.
+/// Wherever values are pushed in a program's code, they are fewer than the constants and references that a statement of the program
+/// has, without the statements inside it.
 pub fn heights_are_low()
     ensures { HeightLaw }
 {}

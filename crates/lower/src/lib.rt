@@ -8,6 +8,7 @@ mod expressions;
 mod kind;
 mod laws;
 mod loops;
+mod low_bytes;
 mod lowering;
 mod put;
 mod silence;

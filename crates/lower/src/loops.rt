@@ -1,21 +1,39 @@
 //! Loops, by the code of their bodies.
 
-ghost use Rattle.std.specs.Prelude.{◌≡◌, ◌++◌, ◌+◌, length, IfOk, OnOk, IsOkUnless};
+ghost use Rattle.std.specs.Prelude.{◌≡◌, ◌++◌, ◌∷◌, [], ◌+◌, false, length, IfOk, OnOk, IsOkUnless};
 ghost use Rattle.plm_type.specs.View.{expression_of, procedures_of, scalar_of};
-ghost use Rattle.lower.specs.Expressions.{operand_of, beside, expression_code, condition_code, test_of};
-ghost use Rattle.lower.specs.Statements.{within, left_in, left_from, next_by_number, add_pushed, next_round};
-ghost use Rattle.lower.specs.Inner.Loops.{while_loop, counting, iterating};
+ghost use Rattle.plm_type.specs.declared.program.Counting.TheVariants.{Up};
+ghost use Rattle.lower.specs.Expressions.{operand_of, beside, expression_code};
+ghost use Rattle.lower.specs.Statements.{while_loop, counts_bytes, index_read, within, next_with_sign, next_by_number, add_pushed, next_round};
+ghost use Rattle.lower.specs.Conditions.{always, compared, condition_code, test_of};
+ghost use Rattle.lower.specs.LowBytes.{low_code};
+ghost use Rattle.lower.specs.Inner.Put.{operand_shown};
+ghost use Rattle.icode.specs.declared.instruction.Instruction.TheVariants.{Back};
+ghost use Rattle.lower.specs.Inner.Loops.{counting, iterating};
 
 use crate::callees::Callees;
-use crate::conditions::{condition, stands_to};
-use crate::expressions::{expression, right};
-use crate::put::{Operand, ROOM, add, as_operand, distance, put};
-use icode::{Instruction, Relation, Test};
+use crate::conditions::{always, condition, related};
+use crate::expressions::{known, right_of};
+use crate::low_bytes::{is_byte, is_narrow, low_load, low_right_of};
+use crate::put::{Operand, ROOM, add, distance, put};
+use icode::{High, Instruction, LowByte, Relation, Test};
 use plm_type::{Counting, Expression, Loop, Scalar};
 use std::alloc::Global;
 use word86::{BinaryOperation, Fault, add16};
 
 type Instructions = Vec<Instruction>;
+
+// Rounds without a test.
+fn endless_loop(alloc: Global, body: &[Instruction]) -> Result<Instructions, Fault>
+    ensures code { IfOk result (λ r. r.items ≡ body.now ++ Back (length body.now + 1) ∷ []) }
+    ensures memory { IsOkUnless result Fault.Memory }
+{
+    let back = distance(body.len(), 1)?;
+    let mut code = Vec::with_capacity(alloc, back)?;
+    add(&mut code, body)?;
+    put(&mut code, Instruction::Back(back))?;
+    Ok(code)
+}
 
 /// DO WHILE.
 pub fn while_loop(
@@ -25,7 +43,25 @@ pub fn while_loop(
     body: &[Instruction],
     exit: usize,
 ) -> Result<Instructions, Fault>
-    ensures code { IfOk result (λ r. r.items ≡ while_loop (condition_code (procedures_of callees.entry.procedures.now) (expression_of tree.now)) (test_of (expression_of tree.now)) body.now exit) }
+    ensures code { IfOk result (λ r. r.items ≡ while_loop (always (expression_of tree.now)) (condition_code (procedures_of callees.entry.procedures.now) (expression_of tree.now)) (test_of (expression_of tree.now)) body.now exit) }
+    ensures memory { IsOkUnless result Fault.Memory }
+{
+    if always(tree) {
+        endless_loop(alloc, body)
+    } else {
+        tested_loop(alloc, callees, tree, body, exit)
+    }
+}
+
+// Rounds with a test.
+fn tested_loop(
+    alloc: Global,
+    callees: Callees<'_>,
+    tree: &Expression,
+    body: &[Instruction],
+    exit: usize,
+) -> Result<Instructions, Fault>
+    ensures code { IfOk result (λ r. r.items ≡ while_loop false (condition_code (procedures_of callees.entry.procedures.now) (expression_of tree.now)) (test_of (expression_of tree.now)) body.now exit) }
     ensures memory { IsOkUnless result Fault.Memory }
 {
     let mut code = Vec::with_capacity(alloc, body.len().saturating_add(ROOM))?;
@@ -68,6 +104,43 @@ fn within(counting: Counting) -> Relation
     }
 }
 
+// Whether a BYTE index is compared with a byte.
+fn counts_bytes(index: Scalar, bound: &Expression) -> bool
+    ensures { result ≡ counts_bytes (scalar_of index) (expression_of bound.now) }
+{
+    is_narrow(index.width) && is_byte(bound)
+}
+
+// The index, before it is compared.
+#[tactic(auto, using(crate::proofs::Trees::same_place))]
+fn index_read(bytes: bool, index: Scalar) -> Instruction
+    ensures { result ≡ index_read bytes (scalar_of index) }
+{
+    if bytes {
+        Instruction::Low(LowByte::Load(index.place), High::Kept)
+    } else {
+        Instruction::Load(index.width, index.place)
+    }
+}
+
+// What the bound is, and what of it is computed.
+fn right_operand(
+    code: &mut Instructions,
+    callees: Callees<'_>,
+    bytes: bool,
+    bound: &Expression,
+) -> Result<Operand, Fault>
+    ensures code { OnOk result (code.new.items ≡ code.old.items ++ compared bytes (beside (operand_of (expression_of bound.now)) (low_code (procedures_of callees.entry.procedures.now) (expression_of bound.now))) (beside (operand_of (expression_of bound.now)) (expression_code (procedures_of callees.entry.procedures.now) (expression_of bound.now)))) }
+    ensures operand { IfOk result (λ o. operand_shown o ≡ operand_of (expression_of bound.now)) }
+    ensures memory { IsOkUnless result Fault.Memory }
+{
+    if bytes {
+        low_right_of(code, callees, bound)
+    } else {
+        right_of(code, callees, bound)
+    }
+}
+
 /// DO with an index, whose first value is in the accumulator.
 pub fn iterate(
     code: &mut Instructions,
@@ -77,12 +150,13 @@ pub fn iterate(
     body: &[Instruction],
     exit: usize,
 ) -> Result<(), Fault>
-    ensures code { OnOk result (code.new.items ≡ code.old.items ++ iterating rounds.now.counting (scalar_of rounds.now.index) (operand_of (expression_of rounds.now.bound)) (beside (operand_of (expression_of rounds.now.bound)) (expression_code (procedures_of callees.entry.procedures.now) (expression_of rounds.now.bound))) (operand_of (expression_of rounds.now.step)) (expression_code (procedures_of callees.entry.procedures.now) (expression_of rounds.now.step)) body.now exit) }
+    ensures code { OnOk result (code.new.items ≡ code.old.items ++ iterating (counts_bytes (scalar_of rounds.now.index) (expression_of rounds.now.bound)) rounds.now.counting (scalar_of rounds.now.index) (operand_of (expression_of rounds.now.bound)) (compared (counts_bytes (scalar_of rounds.now.index) (expression_of rounds.now.bound)) (beside (operand_of (expression_of rounds.now.bound)) (low_code (procedures_of callees.entry.procedures.now) (expression_of rounds.now.bound))) (beside (operand_of (expression_of rounds.now.bound)) (expression_code (procedures_of callees.entry.procedures.now) (expression_of rounds.now.bound)))) (operand_of (expression_of rounds.now.step)) (expression_code (procedures_of callees.entry.procedures.now) (expression_of rounds.now.step)) body.now exit) }
     ensures memory { IsOkUnless result Fault.Memory }
 {
     let Scalar { width, place } = rounds.index;
+    let bytes = counts_bytes(rounds.index, &rounds.bound);
     let mut compared = Vec::new(alloc);
-    right(&mut compared, callees, &rounds.bound)?;
+    let bound = right_operand(&mut compared, callees, bytes, &rounds.bound)?;
     let before = distance(distance(compared.len(), body.len())?, 2)?;
     let again = next_round(
         alloc,
@@ -93,8 +167,8 @@ pub fn iterate(
         before,
     )?;
     put(code, Instruction::Store(width, place))?;
-    put(code, Instruction::Load(width, place))?;
-    let test = stands_to(within(rounds.counting), as_operand(&rounds.bound));
+    put(code, index_read(bytes, rounds.index))?;
+    let test = related(bytes, within(rounds.counting), bound);
     count(code, &compared, test, body, &again, exit)
 }
 
@@ -110,37 +184,16 @@ fn next_round(
     ensures code { IfOk result (λ r. r.items ≡ next_round counting (scalar_of index) (operand_of (expression_of step.now)) (expression_code (procedures_of callees.entry.procedures.now) (expression_of step.now)) before) }
     ensures memory { IsOkUnless result Fault.Memory }
 {
-    match as_operand(step) {
-        Operand::Number(value) => next_by_number(alloc, counting, index, value, before),
-        Operand::Name(_, _) => next_by_stack(alloc, callees, index, step, before),
-        Operand::Computed => next_by_stack(alloc, callees, index, step, before),
+    let mut code = Vec::new(alloc);
+    let value = known(&mut code, callees, step)?;
+    match value {
+        Some(number) => next_by_number(alloc, counting, index, number, before),
+        None => next_by_stack(code, index, before),
     }
 }
 
-// A sum that left the range of the index stands in this relation to a number.
-fn left_in(counting: Counting) -> Relation
-    ensures { result ≡ left_in counting }
-{
-    match counting {
-        Counting::Up => Relation::Less,
-        Counting::SignedUp => Relation::LessSigned,
-        Counting::SignedDown => Relation::GreaterSigned,
-    }
-}
-
-// That number: the step; the least INTEGER and the step; the greatest INTEGER and the step.
-fn left_from(counting: Counting, step: u16) -> u16
-    ensures { result ≡ left_from counting step }
-{
-    match counting {
-        Counting::Up => step,
-        Counting::SignedUp => add16(step, 0x8000),
-        Counting::SignedDown => add16(step, 0x7FFF),
-    }
-}
-
-// The same where the step is a constant.
-#[tactic(auto, using(crate::proofs::Trees::same_place))]
+// The same where the step is a constant. An INTEGER's sum left its range below the least INTEGER and the step, or above the greatest
+// and the step.
 fn next_by_number(
     alloc: Global,
     counting: Counting,
@@ -151,33 +204,73 @@ fn next_by_number(
     ensures code { IfOk result (λ r. r.items ≡ next_by_number counting (scalar_of index) step before) }
     ensures memory { IsOkUnless result Fault.Memory }
 {
+    match counting {
+        Counting::Up => next_without_sign(alloc, index, step, before),
+        Counting::SignedUp => {
+            let from = add16(step, 0x8000);
+            next_with_sign(alloc, Relation::LessSigned, from, index, step, before)
+        }
+        Counting::SignedDown => {
+            let from = add16(step, 0x7FFF);
+            next_with_sign(alloc, Relation::GreaterSigned, from, index, step, before)
+        }
+    }
+}
+
+// Of a BYTE or WORD.
+#[tactic(auto, using(crate::proofs::Trees::same_place))]
+fn next_without_sign(
+    alloc: Global,
+    index: Scalar,
+    step: u16,
+    before: usize,
+) -> Result<Instructions, Fault>
+    ensures code { IfOk result (λ r. r.items ≡ next_by_number Up (scalar_of index) step before) }
+    ensures memory { IsOkUnless result Fault.Memory }
+{
     let Scalar { width, place } = index;
-    let back = distance(before, 4)?;
-    let left = Test::Constant(left_in(counting), left_from(counting, step));
+    let back = distance(before, 2)?;
     let sum = [
-        Instruction::Load(width, place),
-        Instruction::BinaryConstant(BinaryOperation::Add, width, step),
-        Instruction::Store(width, place),
-        Instruction::BackUnless(left, back),
+        low_load(width, place),
+        Instruction::Next(width, place, step, back),
     ];
     let mut code = Vec::new(alloc);
     add(&mut code, &sum)?;
     Ok(code)
 }
 
-// The same by way of the stack.
-fn next_by_stack(
+// Of an INTEGER, whose sum left its range where it stands in this relation to this number.
+#[tactic(auto, using(crate::proofs::Trees::same_place))]
+fn next_with_sign(
     alloc: Global,
-    callees: Callees<'_>,
+    left: Relation,
+    from: u16,
     index: Scalar,
-    step: &Expression,
+    step: u16,
     before: usize,
 ) -> Result<Instructions, Fault>
-    ensures code { IfOk result (λ r. r.items ≡ expression_code (procedures_of callees.entry.procedures.now) (expression_of step.now) ++ add_pushed (scalar_of index) (before + length (expression_code (procedures_of callees.entry.procedures.now) (expression_of step.now)))) }
+    ensures code { IfOk result (λ r. r.items ≡ next_with_sign left from (scalar_of index) step before) }
     ensures memory { IsOkUnless result Fault.Memory }
 {
+    let Scalar { width, place } = index;
+    let back = distance(before, 4)?;
+    let sum = [
+        Instruction::Load(width, place),
+        Instruction::BinaryConstant(BinaryOperation::Add, width, step),
+        Instruction::Store(width, place),
+        Instruction::BackUnless(Test::Constant(left, from), back),
+    ];
     let mut code = Vec::new(alloc);
-    expression(&mut code, callees, step)?;
+    add(&mut code, &sum)?;
+    Ok(code)
+}
+
+// The same by way of the stack, where the step has this code.
+fn next_by_stack(code: Instructions, index: Scalar, before: usize) -> Result<Instructions, Fault>
+    ensures code { IfOk result (λ r. r.items ≡ code.items ++ add_pushed (scalar_of index) (before + length code.items)) }
+    ensures memory { IsOkUnless result Fault.Memory }
+{
+    let mut code = code;
     let before = distance(before, code.len())?;
     add_pushed(&mut code, index, before)?;
     Ok(code)

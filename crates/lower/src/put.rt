@@ -3,7 +3,7 @@
 ghost use Rattle.std.specs.Prelude.{◌≡◌, ◌+◌, ◌++◌, ◌∷◌, [], IfOk, OnOk, IsOkUnless};
 ghost use Rattle.plm_type.specs.View.{expression_of};
 ghost use Rattle.lower.specs.Expressions.{operand_of};
-ghost use Rattle.lower.specs.Inner.Put.{operand_shown};
+ghost use Rattle.lower.specs.Inner.Put.{name_of};
 
 use icode::Instruction;
 use plm_type::{Expression, Place, trees_have_their_lists};
@@ -50,24 +50,24 @@ pub enum Operand {
     Computed,
 }
 
-/// What an expression is as an operand.
+/// The plain variable that an expression is.
 #[tactic(auto, using(crate::proofs::Trees::same_place))]
-pub fn as_operand(tree: &Expression) -> Operand
-    ensures { operand_shown result ≡ operand_of (expression_of tree.now) }
+pub fn as_name(tree: &Expression) -> Option<(Width, Place)>
+    ensures { result ≡ name_of (operand_of (expression_of tree.now)) }
 {
     trees_have_their_lists();
     match tree {
-        Expression::Constant(value) => Operand::Number(*value),
-        Expression::Plain(width, at) => Operand::Name(*width, *at),
-        Expression::Variable(_, _) => Operand::Computed,
-        Expression::Location(_) => Operand::Computed,
-        Expression::Unary(_, _, _) => Operand::Computed,
+        Expression::Plain(width, at) => Some((*width, *at)),
         Expression::Chain(first, others) => match others.as_slice() {
-            [] => as_operand(first),
-            [_, ..] => Operand::Computed,
+            [] => as_name(first),
+            [_, ..] => None,
         },
-        Expression::Embedded(_, _) => Operand::Computed,
-        Expression::Input(_, _) => Operand::Computed,
-        Expression::Call(_, _) => Operand::Computed,
+        Expression::Constant(_)
+        | Expression::Variable(_, _)
+        | Expression::Location(_)
+        | Expression::Unary(_, _, _)
+        | Expression::Embedded(_, _)
+        | Expression::Input(_, _)
+        | Expression::Call(_, _) => None,
     }
 }

@@ -2,8 +2,9 @@
 
 ghost use Rattle.std.specs.Prelude.{◌≡◌, ℕ, ◌≤◌, length, drop, nat_le};
 ghost use Rattle.plm_type.specs.View.{statement_of, statements_of};
-ghost use Rattle.lower.specs.Statements.{is_silent, are_silent, exit_before};
+ghost use Rattle.lower.specs.Statements.{is_silent, are_silent, exit_before, stays, all_stay};
 
+use crate::conditions::always;
 use plm_type::{Statement, trees_have_their_lists};
 
 /// Whether nothing stands for a statement: for the empty one, and for a block of such.
@@ -55,4 +56,36 @@ pub fn exit_before(silent: bool, exit: usize) -> usize
     ensures { result ≡ exit_before silent exit }
 {
     if silent { exit } else { 0 }
+}
+
+// Whether control never comes to the end of a statement: a RETURN with a value, or a DO WHILE that goes on for ever.
+fn stays(statement: &Statement) -> bool
+    ensures { result ≡ stays (statement_of statement.now) }
+{
+    trees_have_their_lists();
+    match statement {
+        Statement::ReturnValue(_, _) => true,
+        Statement::While(condition, _) => always(condition),
+        Statement::Empty
+        | Statement::Block(_)
+        | Statement::Assign(_, _, _)
+        | Statement::Evaluate(_)
+        | Statement::Return
+        | Statement::Enable
+        | Statement::Disable
+        | Statement::Halt
+        | Statement::If(_, _, _)
+        | Statement::Case(_, _)
+        | Statement::Iterate(_, _) => false,
+    }
+}
+
+/// Whether control never comes to the end of statements, by the last one.
+pub fn all_stay(body: &[Box<Statement>]) -> bool
+    ensures { result ≡ all_stay (statements_of body.now) }
+{
+    match body {
+        [] => false,
+        [.., last] => stays(last),
+    }
 }

@@ -4,7 +4,9 @@ ghost use Rattle.std.specs.Prelude.{◌≡◌, ◌++◌, ◌+◌, ◌∷◌, [],
 ghost use Rattle.icode.specs.declared.instruction.Instruction.TheVariants as op;
 ghost use Rattle.plm_type.specs.View.{statement_of, statements_of, expression_of, target_of, targets_of, loop_of, procedures_of};
 ghost use Rattle.plm_type.specs.Rest.{While, Case, Iterate};
-ghost use Rattle.lower.specs.Expressions.{targets_code, expression_code, dropped_code, condition_code, test_of};
+ghost use Rattle.lower.specs.Expressions.{targets_code, expression_code, dropped_code};
+ghost use Rattle.lower.specs.Conditions.{condition_code, test_of};
+ghost use Rattle.lower.specs.LowBytes.{given_code, returned_code};
 ghost use Rattle.lower.specs.Statements.{returning, narrowed, statement_code, statements_code, cases_code, over, failing, choosing, ending, routine_code};
 ghost use Rattle.lower.specs.Inner.Statements.{branching};
 
@@ -14,8 +16,9 @@ use crate::conditions::condition;
 use crate::expressions::{assign, dropped, expression};
 use crate::kind::Kind;
 use crate::loops::{iterate, while_loop};
+use crate::low_bytes::{given, returned};
 use crate::put::{ROOM, add, distance, put};
-use crate::silence::{are_silent, exit_before, with_code};
+use crate::silence::{all_stay, are_silent, exit_before, with_code};
 use icode::Instruction;
 use plm_type::{Expression, Loop, Statement, Target, trees_have_their_lists};
 use std::alloc::Global;
@@ -108,12 +111,12 @@ impl Around<'_> {
         code: &mut Instructions,
         first: &Target,
         others: &[Target],
-        given: &Expression,
+        value: &Expression,
     ) -> Result<(), Fault>
-        ensures code { OnOk result (code.new.items ≡ code.old.items ++ (expression_code (procedures_of self.entry.callees.procedures.now) (expression_of given.now) ++ targets_code (procedures_of self.entry.callees.procedures.now) (targets_of (target_of first.now) others.now))) }
+        ensures code { OnOk result (code.new.items ≡ code.old.items ++ (given_code (procedures_of self.entry.callees.procedures.now) (targets_of (target_of first.now) others.now) (expression_of value.now) ++ targets_code (procedures_of self.entry.callees.procedures.now) (targets_of (target_of first.now) others.now))) }
         ensures memory { IsOkUnless result Fault.Memory }
     {
-        expression(code, self.callees, given)?;
+        given(code, self.callees, first, others, value)?;
         assign(code, self.callees, first, others)
     }
 
@@ -124,10 +127,10 @@ impl Around<'_> {
         width: Width,
         value: &Expression,
     ) -> Result<(), Fault>
-        ensures code { OnOk result (code.new.items ≡ code.old.items ++ (expression_code (procedures_of self.entry.callees.procedures.now) (expression_of value.now) ++ (narrowed width ++ op.Leave ∷ []))) }
+        ensures code { OnOk result (code.new.items ≡ code.old.items ++ (returned_code (procedures_of self.entry.callees.procedures.now) width (expression_of value.now) ++ (narrowed width ++ op.Leave ∷ []))) }
         ensures memory { IsOkUnless result Fault.Memory }
     {
-        expression(code, self.callees, value)?;
+        returned(code, self.callees, width, value)?;
         narrow(code, width)?;
         put(code, Instruction::Leave)
     }
@@ -264,7 +267,7 @@ impl Around<'_> {
         ensures memory { IsOkUnless result Fault.Memory }
     {
         let body = self.apart(&rounds.body, 0)?;
-        expression(code, self.callees, first)?;
+        returned(code, self.callees, rounds.index.width, first)?;
         iterate(code, self.alloc, self.callees, rounds, &body, exit)
     }
 
@@ -310,6 +313,9 @@ impl Around<'_> {
         ensures memory { IsOkUnless result Fault.Memory }
     {
         let mut code = self.apart(body, 0)?;
+        if all_stay(body) {
+            return Ok(code);
+        }
         end(&mut code, self.kind)?;
         Ok(code)
     }

@@ -57,7 +57,7 @@ purposed (purpose.Store width d) r = aimed d (ToVariable width r)
 
 abbrev pub later_of : Later → Statements
 later_of later.Leaving = Then Leaving End
-later_of (later.Repeat c ss) = Then (While (expression_of c.now) (expression_of c.now) (statements_of ss.now)) End
+later_of (later.While c ss) = Then (While (expression_of c.now) (expression_of c.now) (statements_of ss.now)) End
 later_of (later.Next l) = Then (Stepping (step_of (loop_of l.now)) (loop_of l.now)) End
 
 -- arguments of which the first have these values

@@ -26,7 +26,7 @@ pub enum Later<'a> {
     /// The end of a block.
     Leaving,
     /// A DO WHILE begins its test again.
-    Repeat(&'a Expression, &'a [Box<Statement>]),
+    While(&'a Expression, &'a [Box<Statement>]),
     /// A DO with an index goes on to its step.
     Next(&'a Loop),
 }

@@ -157,7 +157,7 @@ fn while_loop<'a>(v: u16, condition: &'a Expression, body: &'a [Box<Statement>])
     ensures { part_of result ≡ ToRun (if is_odd v then behind (statements_of body.now) (Then (While (expression_of condition.now) (expression_of condition.now) (statements_of body.now)) End) else End) }
 {
     if is_odd(v) {
-        Focus::Within(Later::Repeat(condition, body), body)
+        Focus::Within(Later::While(condition, body), body)
     } else {
         Focus::Statements(&[])
     }

@@ -155,10 +155,7 @@ impl<'a> Later<'a> {
     {
         match self {
             Later::Leaving => Start::Ready(Redex::Leaving),
-            Later::Repeat(condition, body) => Start::Within(
-                Hole::While(condition, body),
-                condition,
-            ),
+            Later::While(condition, body) => Start::Within(Hole::While(condition, body), condition),
             Later::Next(rounds) => Start::Within(Hole::Stepping(rounds), &rounds.step),
         }
     }

@@ -357,7 +357,7 @@ module _ (laws : Laws) (find : ℕ → ℕ → Option (ℕ × ℕ)) (words : ℕ
       ∙ ap (λ z. unless (is_sp z) (silently (Own q (exchanged Ax z g) st false given))) second_is
       ∙ ap (λ (b : Bool). unless b (silently (Own q (swapped r g) st false given))) other
 
-  byte_keeps : (s : Registers) → s.accumulator ≡ true → (h : Working) → OnlyChanges s h (set_byte h Ah 0)
+  pub byte_keeps : (s : Registers) → s.accumulator ≡ true → (h : Working) → OnlyChanges s h (set_byte h Ah 0)
   byte_keeps s acc h = (
     subst (λ (b : Bool). Same b h.ax (set_byte h Ah 0).ax) (sym acc) tt,
     same_refl s.right h.cx,

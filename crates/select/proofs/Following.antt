@@ -1,10 +1,11 @@
 -- The instructions of a context follow the intermediate code, row by row.
-use Rattle.std.proofs.Common.{◌≡◌, ℕ, zero, suc, ◌+◌, ◌-◌, ◌*◌, ◌/◌, ◌%◌, ◌<◌, ◌≤◌, ◌⊎◌, inl, inr, Bool, true, false, List, [], ◌∷◌, ◌++◌, length, drop, Option, Some, None, refl, sym, ap, ◌∙◌, subst, arith, slice_get}
+use Rattle.std.proofs.Common.{true≢false, ◌≡◌, ℕ, zero, suc, ◌+◌, ◌-◌, ◌*◌, ◌/◌, ◌%◌, ◌<◌, ◌≤◌, ◌⊎◌, inl, inr, Bool, true, false, List, [], ◌∷◌, ◌++◌, length, drop, Option, Some, None, refl, sym, ap, ◌∙◌, subst, arith, slice_get}
 use Rattle.std.specs.Prelude.{not, if◌then◌else◌, nat_le, nat_lt, nat_eq, ◌==◌, ◌&&◌, slice_index}
 use Rattle.std.specs.Int.RustNames.{bit_and}
-use Rattle.std.proofs.lemmas.Bool.{cases_lt, lt-ltb, le-ltb, le-leb, lt-leb, leb-true, eq-eqb, ne_eqb, eqb-true, and_parts, and_right}
+use Rattle.std.proofs.lemmas.Bool.{cases_lt, lt-ltb, le-ltb, le-leb, lt-leb, leb-true, leb-false, eq-eqb, ne_eqb, eqb-true, and_parts, and_right}
 use Rattle.std.proofs.lemmas.Option.{none-some}
-use Rattle.std.proofs.lemmas.Nat.{and_mask}
+use Rattle.std.proofs.Math.Nat.{mul_comm}
+use Rattle.std.proofs.lemmas.Nat.{and_comm, or_comm, xor_comm, and_mask, and_le_l, or_of_8, xor_of_8}
 use Rattle.word86.specs.declared.width.Width.{Width}
 use Rattle.word86.specs.declared.width.Width.TheVariants as widths
 use Rattle.word86.specs.declared.page.Page.{Page}
@@ -47,25 +48,33 @@ use Rattle.i86_table.specs.Open.{closed}
 use Rattle.i86_table.specs.Condition.{holds}
 use Rattle.i86_table.specs.Arithmetic.{has, with_flag, flag_bit, tested, operated, shifted}
 use Rattle.i86_table.specs.Arithmetic as i86_arithmetic
-use Rattle.i86_table.specs.Contexts.{Context, Own, Working, Given, further, set_word, set_byte, set_flags, word_result, alu_word, room, bytes, place_in, in_object, on_screen, reads, writes, pushes, refused, offered, input_gives, output_takes, top_of, stack_pointer, takes, silently}
+use Rattle.i86_table.specs.Contexts.{Context, Own, Working, Given, further, set_word, set_byte, set_flags, word_result, alu_word, alu_byte, room, bytes, place_in, in_object, on_screen, reads, writes, pushes, refused, offered, input_gives, output_takes, top_of, stack_pointer, takes, silently}
 use Rattle.icode.specs.declared.instruction.Instruction.{Instruction}
 use Rattle.icode.specs.declared.instruction.Instruction.TheVariants as op
 use Rattle.icode.specs.declared.instruction.Relation.{Relation}
 use Rattle.icode.specs.declared.instruction.Test.{Test}
 use Rattle.icode.specs.declared.instruction.Test.TheVariants as test
+use Rattle.icode.specs.declared.instruction.LowByte.{LowByte}
+use Rattle.icode.specs.declared.instruction.LowByte.TheVariants as lows
+use Rattle.icode.specs.declared.instruction.High.{High}
+use Rattle.icode.specs.declared.instruction.High.TheVariants as highs
+use Rattle.icode.specs.declared.instruction.Right.{Right}
+use Rattle.icode.specs.declared.instruction.Right.TheVariants as rights
+use Rattle.icode.specs.declared.instruction.Direct.{Direct}
+use Rattle.icode.specs.declared.instruction.Direct.TheVariants as directs
 use Rattle.icode.specs.declared.code.Routine.{Routine}
 use Rattle.icode.specs.declared.code.Routine.TheVariants.{Procedure, Nowhere}
 use Rattle.icode.specs.declared.code.Word.{Word}
 use Rattle.icode.specs.declared.code.Word.TheVariants.{Value, Return}
 use Rattle.icode.specs.declared.registers.Registers.{Registers}
 use Rattle.icode.specs.Registers.{none, just_accumulator, just_right, just_high, joined, of_operator, is_direct, of_direct, of_read, of_test, of_drop, changes}
-use Rattle.icode.specs.Machine.{At, address, found, loaded, stored, run, run_at, does, is_odd, stands, value_on_top, with_value, value_in, computed, jumped, dropped, switched}
+use Rattle.icode.specs.Machine.{At, address, found, loaded, stored, with_low, run, run_at, does, is_odd, stands, value_on_top, with_value, value_in, computed, jumped, dropped, switched, settled, direct_value, of_bytes}
 use Rattle.icode.specs.Machine as machine
 use Rattle.select.specs.declared.part.Step.{Step}
 use Rattle.select.specs.declared.part.Step.TheVariants.{Plain, GotoIf}
 use Rattle.select.specs.Linked.{Stands}
 use Rattle.select.specs.Rows
-use Rattle.select.specs.Rows.{load_number, accumulator_gets, exchange, copy, clear_byte, clear_high, push, pop, alu, alu_number, core, narrow, narrow_right, then_narrow, narrow_sum, loads, loads_right, stores, spot, row, first_of, plain, direct, by_constant, by_read, left_from_stack, fails, registers_of, given_back}
+use Rattle.select.specs.Rows.{load_number, accumulator_gets, exchange, copy, clear_byte, clear_high, push, pop, alu, alu_number, core, narrow, narrow_right, then_narrow, narrow_sum, loads, loads_right, stores, spot, row, first_of, plain, direct, by_constant, by_read, from_stack, commutes, fails, without_sign, registers_of, given_back, arithmetic, low_number, byte_alu, low_gets, low_on, cleared, low_row, low_compared}
 use Rattle.select.specs.Inner.Rows.{segment_of}
 use Rattle.icode.specs.Made.{constant_in}
 use Rattle.icode.specs.Runs.{Leads, Comes}
@@ -82,6 +91,7 @@ use Rattle.select.proofs.Flags
 use Rattle.select.proofs.Stacks
 use Rattle.select.proofs.Tables
 use Rattle.select.proofs.Offers
+use Rattle.select.proofs.Rounds
 use Rattle.select.proofs.Offers.{right_gives}
 
 module _ (laws : Laws) (x : Image) (all : IsSelected x)
@@ -515,15 +525,53 @@ module _ (laws : Laws) (x : Image) (all : IsSelected x)
   unary_row unary.High width = change_row unary.High width (i.MoveByte (FromRegister (rm.Register Al) Ah)) (clear_high ∷ []) refl (omega arith)
   unary_row unary.Double width = change_row unary.Double width i.Nop [] refl (omega arith)
 
+  -- an operator whose operands change places
+  swaps : (o : BinaryOperation) → commutes o ≡ true → (w : Width) (u v : ℕ) → binary_value o w u v ≡ binary_value o w v u
+  swaps binary.Add d w u v = ap (λ z. Some (low w z)) (omega arith)
+  swaps binary.Multiply d w u v = ap (λ z. Some (low w z)) (mul_comm u v)
+  swaps binary.And d w u v = ap (λ z. Some z) (and_comm u v)
+  swaps binary.Or d w u v = ap (λ z. Some z) (or_comm u v)
+  swaps binary.ExclusiveOr d w u v = ap (λ z. Some z) (xor_comm u v)
+  swaps binary.Divide d w u v = absurd (true≢false (sym d))
+  swaps binary.Modulo d w u v = absurd (true≢false (sym d))
+  swaps binary.Subtract d w u v = absurd (true≢false (sym d))
+  swaps binary.Equal d w u v = absurd (true≢false (sym d))
+  swaps binary.NotEqual d w u v = absurd (true≢false (sym d))
+  swaps binary.Less d w u v = absurd (true≢false (sym d))
+  swaps binary.LessEqual d w u v = absurd (true≢false (sym d))
+  swaps binary.Greater d w u v = absurd (true≢false (sym d))
+  swaps binary.GreaterEqual d w u v = absurd (true≢false (sym d))
+  swaps binary.ShiftLeft d w u v = absurd (true≢false (sym d))
+  swaps binary.ShiftRight d w u v = absurd (true≢false (sym d))
+  swaps binary.RotateLeft d w u v = absurd (true≢false (sym d))
+  swaps binary.RotateRight d w u v = absurd (true≢false (sym d))
+  swaps binary.DivideSigned d w u v = absurd (true≢false (sym d))
+  swaps binary.ModuloSigned d w u v = absurd (true≢false (sym d))
+  swaps binary.LessSigned d w u v = absurd (true≢false (sym d))
+  swaps binary.LessEqualSigned d w u v = absurd (true≢false (sym d))
+  swaps binary.GreaterSigned d w u v = absurd (true≢false (sym d))
+  swaps binary.GreaterEqualSigned d w u v = absurd (true≢false (sym d))
+
   binary_row : (o : BinaryOperation) (width : Width) → RowFollows (op.Binary o width)
   binary_row o width r k e g n go a inv [] p sm = bad r k (op.Binary o width) e g n go a inv [] p sm refl
   binary_row o width r k e g n go a inv (Return q ∷ ws) p sm = bad r k (op.Binary o width) e g n go a inv (Return q ∷ ws) p sm refl
-  binary_row o width r k e g n go a inv (Value v ∷ ws) p sm =
-      let g0 = Cores.swapped laws x.find x.words x.main x.handler given Cx g in
-      let g1 = set_word g0 Ax v in
-      computing r k (op.Binary o width) e g n go a inv (Value v ∷ ws) p sm (exchange Cx) (pop Ax ∷ []) (binary_value o width v g.ax) ws (Cores.core_changes o) g1 (core o width) refl (rows_stand r k (op.Binary o width) e) (let s = Cores.short o width in omega (arith, s))
-      (g0, v ∷ stack_of ws, Cores.exchanges laws x.find x.words x.main x.handler given Cx refl refl g (v ∷ stack_of ws), (g1, stack_of ws, λ q. refl, (refl, refl))) sm.1 (Cores.operands_put o g g1 refl refl refl refl refl) (Cores.core_within o)
-      (Cores.core_gives laws x.find x.words x.main x.handler given o width g1 (stack_of ws) sm.0 a)
+  binary_row o width r k e g n go a inv (Value v ∷ ws) p sm = by (commutes o) refl
+    where
+      stands_so : (b : Bool) → commutes o ≡ b → Chain r (place r k) (plain (Rows.from_stack b ++ core o width)) (place r (k + 1))
+      stands_so b d = subst (λ (b : Bool). Chain r (place r k) (plain (Rows.from_stack b ++ core o width)) (place r (k + 1))) d (rows_stand r k (op.Binary o width) e)
+
+      by : (b : Bool) → commutes o ≡ b → Fl n 8 (At r k g.ax (Value v ∷ ws)) (Own (place r k) g (stack_of (Value v ∷ ws)) false given)
+      by true d =
+          let g1 = set_word g Cx v in
+          computing r k (op.Binary o width) e g n go a inv (Value v ∷ ws) p sm (pop Cx) [] (binary_value o width v g.ax) ws (Cores.core_changes o) g1 (core o width) refl (stands_so true d) (let s = Cores.short o width in omega (arith, s))
+          (g1, stack_of ws, λ q. refl, (refl, refl)) sm.1 (Cores.operands_put o g g1 refl refl refl refl refl) (Cores.core_within o)
+          (subst (λ z. Cores.Gives laws x.find x.words x.main x.handler given (Cores.core_changes o) (core o width) g1 (stack_of ws) z) (swaps o d width g.ax v) (Cores.core_gives laws x.find x.words x.main x.handler given o width g1 (stack_of ws) a sm.0))
+      by false d =
+          let g0 = Cores.swapped laws x.find x.words x.main x.handler given Cx g in
+          let g1 = set_word g0 Ax v in
+          computing r k (op.Binary o width) e g n go a inv (Value v ∷ ws) p sm (exchange Cx) (pop Ax ∷ []) (binary_value o width v g.ax) ws (Cores.core_changes o) g1 (core o width) refl (stands_so false d) (let s = Cores.short o width in omega (arith, s))
+          (g0, v ∷ stack_of ws, Cores.exchanges laws x.find x.words x.main x.handler given Cx refl refl g (v ∷ stack_of ws), (g1, stack_of ws, λ q. refl, (refl, refl))) sm.1 (Cores.operands_put o g g1 refl refl refl refl refl) (Cores.core_within o)
+          (Cores.core_gives laws x.find x.words x.main x.handler given o width g1 (stack_of ws) sm.0 a)
 
   sum_pace : (o : BinaryOperation) (width : Width) → with_each (narrow_sum o width) 8 ≤ 20
   sum_pace binary.Add widths.Byte = omega arith
@@ -658,6 +706,37 @@ module _ (laws : Laws) (x : Image) (all : IsSelected x)
         (λ z. off w refl z ∙ ap (λ q. Does (Touch (Write width w q) (λ _. Own z g1 (stack_of ws2) false given))) taken) sm2
         (λ v2 lt2. (g1, (refl, refl), is, lt, keep))
 
+  -- CX or CL is written, which holds the value that was on top
+  store_top_row : (width : Width) (y : Place) → RowFollows (op.StoreTop width y)
+  store_top_row width y r k e g n go a inv [] p sm = bad r k (op.StoreTop width y) e g n go a inv [] p sm refl
+  store_top_row width y r k e g n go a inv (Return q ∷ ws) p sm = bad r k (op.StoreTop width y) e g n go a inv (Return q ∷ ws) p sm refl
+  store_top_row width y r k e g n go a inv (Value v ∷ ws) p sm = by (found x.offsets x.sizes width y v0) refl
+    where
+      v0 : ℕ
+      v0 = address x.offsets x.sizes y 0
+
+      g1 : Working
+      g1 = set_word g Cx v
+
+      taken : (width : Width) → Offers.right_takes width g1 ≡ low width v
+      taken widths.Byte = refl
+      taken widths.Word = omega (arith, sm.0)
+
+      chained : Chain r (place r k) (Plain (pop Cx) ∷ Plain (closed (Rows.stores_right width (segment_of y)) v0) ∷ []) (place r (k + 1))
+      chained =
+          let c = rows_stand r k (op.StoreTop width y) e in
+          (c.0, c.1, c.2, Chains.settled x.code x.words x.offsets x.places (x.at r) x.sizes (Rows.stores_right width) y [] c.0 (place r (k + 1)) c.3)
+
+      by : (o : Option Where) → found x.offsets x.sizes width y v0 ≡ o → Fl n 8 (At r k g.ax (Value v ∷ ws)) (Own (place r k) g (stack_of (Value v ∷ ws)) false given)
+      by None is = bad r k (op.StoreTop width y) e g n go a inv (Value v ∷ ws) p sm (ap (λ z. stored width z v (At r (k + 1) g.ax ws)) is)
+      by (Some w) is =
+          accessing r k (op.StoreTop width y) e g n go a inv (Value v ∷ ws) p sm (pop Cx ∷ []) (closed (Rows.stores_right width (segment_of y)) v0) [] (Write width w (low width v)) (λ _. g.ax) ws g1 (stack_of ws) (λ _. g1)
+          (ap (λ z. stored width z v (At r (k + 1) g.ax ws)) is) chained (omega arith) (omega arith) (g1, stack_of ws, λ q. refl, (refl, refl))
+          (λ z. Offers.store_right_offered x.find x.words x.main x.handler given width y v0 z g1 (stack_of ws)
+          ∙ ap (λ q. writes q width (Offers.right_takes width g1) (Own z g1 (stack_of ws) false given)) (place_found width y v0 w is ∙ is)
+          ∙ ap (λ q. Does (Touch (Write width w q) (λ _. Own z g1 (stack_of ws) false given))) (taken width)) sm.1
+          (λ u lt. (g1, (refl, refl), refl, a, (refl, tt, refl, refl, refl, refl, refl)))
+
   store_row : (width : Width) (y : Place) → RowFollows (op.Store width y)
   store_row width y r k e g n go a inv ws p sm =
       let v0 = address x.offsets x.sizes y 0 in
@@ -753,6 +832,183 @@ module _ (laws : Laws) (x : Image) (all : IsSelected x)
           (refl, refl) (λ z. refl) sm
           (λ v lt. let w = narrowed width g (stack_of ws) v lt in (w.0, w.1, w.2, w.3, subst (λ (b : Bool). OnlyChanges (joined just_accumulator (if b then just_high else none)) g w.0) (sym d) w.4))
 
+  -- ---- low bytes
+
+  direct_is : (o : Direct) (b c : ℕ) (f : flags_type.Flags) → b < 256 → c < 256 → (operated (arithmetic o) widths.Byte b c f).value ≡ direct_value o b c
+  unfolding i86_arithmetic.operated i86_arithmetic.added i86_arithmetic.subtracted i86_arithmetic.combined
+  direct_is directs.Add b c f l m = omega (arith, l, m)
+  direct_is directs.Subtract b c f l m = omega (arith, l, m)
+  direct_is directs.And b c f l m = refl
+  direct_is directs.Or b c f l m = refl
+  direct_is directs.ExclusiveOr b c f l m = refl
+
+  direct_small : (o : Direct) (b c : ℕ) → b < 256 → c < 256 → direct_value o b c < 256
+  direct_small directs.Add b c l m = omega arith
+  direct_small directs.Subtract b c l m = omega arith
+  direct_small directs.And b c l m = omega (arith, l, and_le_l b c)
+  direct_small directs.Or b c l m = or_of_8 b c l m
+  direct_small directs.ExclusiveOr b c l m = xor_of_8 b c l m
+
+  -- AL has a byte: then the high byte stays or becomes 0
+  settles : (s : Registers) → s.accumulator ≡ true → (high : High) (g h : Working) (st : List ℕ) (b v : ℕ) → b < 65536 → v < 256 → h.ax ≡ b / 256 * 256 + v → OnlyChanges s g h
+      → (h2 : Working) × Str (cleared high) h st h2 st × (h2.ax ≡ settled high b v) × (settled high b v < 65536) × OnlyChanges s g h2
+  settles s acc highs.Kept g h st b v lb lv is keep = (h, (refl, refl), is, omega (arith, lb, lv), keep)
+  settles s acc highs.Cleared g h st b v lb lv is keep =
+      (set_byte h Ah 0, (set_byte h Ah 0, st, λ q. refl, (refl, refl)), omega (arith, is, lv), omega (arith, lv), changes_then s g h (set_byte h Ah 0) keep (Cores.byte_keeps laws x.find x.words x.main x.handler given s acc h))
+
+  cleared_pace : (high : High) → with_each (cleared high) 8 ≤ 9
+  cleared_pace highs.Kept = omega arith
+  cleared_pace highs.Cleared = omega arith
+
+  -- what was read into AL
+  gained : (s : Registers) → s.accumulator ≡ true → (high : High) (g g1 : Working) (st : List ℕ) (v : ℕ) → g1.ax ≡ g.ax → g.ax < 65536 → v < 256 → OnlyChanges s g (set_byte g1 Al v)
+      → (h : Working) × Str (cleared high) (input_gives widths.Byte g1 v) st h st × (h.ax ≡ settled high g.ax v) × (settled high g.ax v < 65536) × OnlyChanges s g h
+  gained s acc high g g1 st v is lt lv keep = settles s acc high g (set_byte g1 Al v) st g.ax v lt lv (omega (arith, is, lt, lv)) keep
+
+  low_constant_row : (c : ℕ) (high : High) → RowFollows (op.Low (lows.Constant c) high)
+  low_constant_row c high r k e g n go a inv ws p sm =
+      let h = set_byte g Al (c % 256) in
+      let t = settles just_accumulator refl high g h (stack_of ws) g.ax (c % 256) a (omega arith) (omega (arith, a)) (tt, refl, refl, refl, refl, refl, refl) in
+      silent r k (op.Low (lows.Constant c) high) e g n go a inv ws p sm (low_gets c) (cleared high) (settled high g.ax (c % 256)) ws t.0 refl (rows_stand r k (op.Low (lows.Constant c) high) e) (omega (arith, cleared_pace high))
+      (h, stack_of ws, λ q. refl, t.1) t.2 t.3 sm t.4
+
+  low_high_row : (high : High) → RowFollows (op.Low lows.High high)
+  low_high_row high r k e g n go a inv ws p sm =
+      let h = set_byte g Al (Rattle.i86_table.specs.Contexts.byte_in g Ah) in
+      let t = settles just_accumulator refl high g h (stack_of ws) g.ax (g.ax / 256) a (omega (arith, a)) (omega (arith, a)) (tt, refl, refl, refl, refl, refl, refl) in
+      silent r k (op.Low lows.High high) e g n go a inv ws p sm (i.MoveByte (FromRegister (rm.Register Al) Ah)) (cleared high) (settled high g.ax (g.ax / 256)) ws t.0 refl (rows_stand r k (op.Low lows.High high) e) (omega (arith, cleared_pace high))
+      (h, stack_of ws, λ q. refl, t.1) t.2 t.3 sm t.4
+
+  low_load_row : (y : Place) (high : High) → RowFollows (op.Low (lows.Load y) high)
+  low_load_row y high r k e g n go a inv ws p sm =
+      let v0 = address x.offsets x.sizes y 0 in
+      read_on r k (op.Low (lows.Load y) high) e g n go a inv ws p sm widths.Byte [] (closed (loads widths.Byte None (segment_of y)) v0) (cleared high) (found x.offsets x.sizes widths.Byte y v0) (λ v. settled high g.ax v) g (λ v. input_gives widths.Byte g v) refl
+      (Chains.settled x.code x.words x.offsets x.places (x.at r) x.sizes (loads widths.Byte None) y (plain (cleared high)) (place r k) (place r (k + 1)) (rows_stand r k (op.Low (lows.Load y) high) e))
+      (omega arith) (omega (arith, cleared_pace high)) (refl, refl)
+      (λ at is z. Offers.load_offered x.find x.words x.main x.handler given widths.Byte y None v0 z g (stack_of ws) ∙ ap (λ o. reads o widths.Byte (λ v. Own z (input_gives widths.Byte g v) (stack_of ws) false given)) (place_found widths.Byte y v0 at is))
+      (λ v lt. gained just_accumulator refl high g g (stack_of ws) v refl a lt (tt, refl, refl, refl, refl, refl, refl))
+
+  low_load_at_row : (y : Place) (high : High) → RowFollows (op.Low (lows.LoadAt y) high)
+  low_load_at_row y high r k e g n go a inv ws p sm =
+      let v0 = address x.offsets x.sizes y 0 in
+      let g1 = set_word g Bx g.ax in
+      let c = rows_stand r k (op.Low (lows.LoadAt y) high) e in
+      read_on r k (op.Low (lows.LoadAt y) high) e g n go a inv ws p sm widths.Byte (copy Bx Ax ∷ []) (closed (loads widths.Byte (Some bases.Bx) (segment_of y)) v0) (cleared high) (found x.offsets x.sizes widths.Byte y (address x.offsets x.sizes y g.ax)) (λ v. settled high g.ax v) g1 (λ v. input_gives widths.Byte g1 v) refl
+      (c.0, c.1, c.2, Chains.settled x.code x.words x.offsets x.places (x.at r) x.sizes (loads widths.Byte (Some bases.Bx)) y (plain (cleared high)) c.0 (place r (k + 1)) c.3)
+      (omega arith) (omega (arith, cleared_pace high)) (g1, stack_of ws, λ q. refl, (refl, refl))
+      (λ at is z. Offers.load_offered x.find x.words x.main x.handler given widths.Byte y (Some bases.Bx) v0 z g1 (stack_of ws) ∙ ap (λ o. reads o widths.Byte (λ v. Own z (input_gives widths.Byte g1 v) (stack_of ws) false given)) (behind_found widths.Byte y g.ax at is))
+      (λ v lt. gained addressed refl high g g1 (stack_of ws) v refl a lt (tt, refl, refl, tt, refl, refl, refl))
+
+  low_load_there_row : (high : High) → RowFollows (op.Low lows.LoadThere high)
+  unfolding there
+  low_load_there_row high r k e g n go a inv ws p sm =
+      let g1 = set_word g Bx g.ax in
+      read_on r k (op.Low lows.LoadThere high) e g n go a inv ws p sm widths.Byte (copy Bx Ax ∷ []) (closed (loads widths.Byte (Some bases.Bx) segments.Ds) 0) (cleared high) (held 0 x.offsets x.sizes g.ax 1) (λ v. settled high g.ax v) g1 (λ v. input_gives widths.Byte g1 v) refl
+      (rows_stand r k (op.Low lows.LoadThere high) e)
+      (omega arith) (omega (arith, cleared_pace high)) (g1, stack_of ws, λ q. refl, (refl, refl))
+      (λ at is z. Offers.load_offered x.find x.words x.main x.handler given widths.Byte there (Some bases.Bx) 0 z g1 (stack_of ws) ∙ ap (λ o. reads o widths.Byte (λ v. Own z (input_gives widths.Byte g1 v) (stack_of ws) false given)) (there_found widths.Byte g.ax a))
+      (λ v lt. gained addressed refl high g g1 (stack_of ws) v refl a lt (tt, refl, refl, tt, refl, refl, refl))
+
+  low_receive_row : (high : High) → RowFollows (op.Low lows.Receive high)
+  low_receive_row high r k e g n go a inv ws p sm =
+      let g1 = set_word g Dx g.ax in
+      accessing r k (op.Low lows.Receive high) e g n go a inv ws p sm (copy Dx Ax ∷ []) (i.In widths.Byte ports.Dx) (cleared high) (Input widths.Byte g.ax) (λ v. settled high g.ax v) ws g1 (stack_of ws) (λ v. input_gives widths.Byte g1 v) refl (rows_stand r k (op.Low lows.Receive high) e) (omega arith) (omega (arith, cleared_pace high))
+      (g1, stack_of ws, λ q. refl, (refl, refl)) (λ z. refl) sm
+      (λ v lt. gained ported refl high g g1 (stack_of ws) v refl a lt (tt, refl, tt, refl, refl, refl, refl))
+
+  low_receive_from_row : (port : ℕ) (high : High) → RowFollows (op.Low (lows.ReceiveFrom port) high)
+  low_receive_from_row port high r k e g n go a inv ws p sm = by (nat_le 256 port) refl
+    where
+      stands_so : (b : Bool) → nat_le 256 port ≡ b → Chain r (place r k) (plain (if b then load_number Dx port ∷ i.In widths.Byte ports.Dx ∷ cleared high else i.In widths.Byte (ports.Fixed port) ∷ cleared high)) (place r (k + 1))
+      stands_so b d = subst (λ (b : Bool). Chain r (place r k) (plain (if b then load_number Dx port ∷ i.In widths.Byte ports.Dx ∷ cleared high else i.In widths.Byte (ports.Fixed port) ∷ cleared high)) (place r (k + 1))) d (rows_stand r k (op.Low (lows.ReceiveFrom port) high) e)
+
+      by : (b : Bool) → nat_le 256 port ≡ b → Fl n 8 (At r k g.ax ws) (Own (place r k) g (stack_of ws) false given)
+      by true d =
+          let g1 = set_word g Dx port in
+          accessing r k (op.Low (lows.ReceiveFrom port) high) e g n go a inv ws p sm (load_number Dx port ∷ []) (i.In widths.Byte ports.Dx) (cleared high) (Input widths.Byte port) (λ v. settled high g.ax v) ws g1 (stack_of ws) (λ v. input_gives widths.Byte g1 v) refl (stands_so true d) (omega arith) (omega (arith, cleared_pace high))
+          (g1, stack_of ws, λ q. refl, (refl, refl)) (λ z. refl) sm
+          (λ v lt. let w = gained ported refl high g g1 (stack_of ws) v refl a lt (tt, refl, tt, refl, refl, refl, refl) in
+          (w.0, w.1, w.2, w.3, subst (λ (b : Bool). OnlyChanges (joined just_accumulator (if b then just_high else none)) g w.0) (sym d) w.4))
+      by false d =
+          accessing r k (op.Low (lows.ReceiveFrom port) high) e g n go a inv ws p sm [] (i.In widths.Byte (ports.Fixed port)) (cleared high) (Input widths.Byte port) (λ v. settled high g.ax v) ws g (stack_of ws) (λ v. input_gives widths.Byte g v) refl (stands_so false d) (omega arith) (omega (arith, cleared_pace high))
+          (refl, refl) (λ z. refl) sm
+          (λ v lt. let w = gained just_accumulator refl high g g (stack_of ws) v refl a lt (tt, refl, refl, refl, refl, refl, refl) in
+          (w.0, w.1, w.2, w.3, subst (λ (b : Bool). OnlyChanges (joined just_accumulator (if b then just_high else none)) g w.0) (sym d) w.4))
+
+  -- an operation on AL and a byte, where AX is a word; what it leaves, and that it leads there
+  abbrev after_direct : Direct → ℕ → Working → Working
+  after_direct o c g = let z = operated (arithmetic o) widths.Byte (g.ax % 256) c g.flags in set_byte (set_flags g z.flags) Al z.value
+
+  direct_leaves : (o : Direct) (c : ℕ) (g : Working) → alu_byte (arithmetic o) Al c g ≡ after_direct o c g
+  direct_leaves directs.Add c g = refl
+  direct_leaves directs.Subtract c g = refl
+  direct_leaves directs.And c g = refl
+  direct_leaves directs.Or c g = refl
+  direct_leaves directs.ExclusiveOr c g = refl
+
+  direct_settles : (s : Registers) → s.accumulator ≡ true → (o : Direct) (high : High) (g0 g : Working) (st : List ℕ) (c : ℕ) → g.ax < 65536 → c < 256 → OnlyChanges s g0 (after_direct o c g)
+      → (h2 : Working) × Str (cleared high) (after_direct o c g) st h2 st × (h2.ax ≡ of_bytes o high g.ax c) × (of_bytes o high g.ax c < 65536) × OnlyChanges s g0 h2
+  direct_settles s acc o high g0 g st c l m keep =
+      let small : g.ax % 256 < 256 = omega arith in
+      let is = direct_is o (g.ax % 256) c g.flags small m in
+      let few = direct_small o (g.ax % 256) c small m in
+      settles s acc high g0 (after_direct o c g) st g.ax (direct_value o (g.ax % 256) c) l few (omega (arith, l, is, few)) keep
+
+  operate_constant_row : (o : Direct) (c : ℕ) (high : High) → RowFollows (op.Low (lows.Operate o (rights.Constant c)) high)
+  operate_constant_row o c high r k e g n go a inv ws p sm =
+      let t = direct_settles just_accumulator refl o high g g (stack_of ws) (c % 256) a (omega arith) (tt, refl, refl, refl, refl, refl, refl) in
+      silent r k (op.Low (lows.Operate o (rights.Constant c)) high) e g n go a inv ws p sm (low_number (arithmetic o) c) (cleared high) (of_bytes o high g.ax (c % 256)) ws t.0 refl
+      (rows_stand r k (op.Low (lows.Operate o (rights.Constant c)) high) e) (omega (arith, cleared_pace high))
+      (after_direct o (c % 256) g, stack_of ws, λ q. ap (λ z. Does (Silent (Own q z (stack_of ws) false given))) (direct_leaves o (c % 256) g), t.1) t.2 t.3 sm t.4
+
+  operate_plain_row : (o : Direct) (y : Place) (high : High) → RowFollows (op.Low (lows.Operate o (rights.Plain y)) high)
+  operate_plain_row o y high r k e g n go a inv ws p sm =
+      let v0 = address x.offsets x.sizes y 0 in
+      read_on r k (op.Low (lows.Operate o (rights.Plain y)) high) e g n go a inv ws p sm widths.Byte [] (closed (low_on (Operate (arithmetic o)) (segment_of y)) v0) (cleared high) (found x.offsets x.sizes widths.Byte y v0) (λ v. of_bytes o high g.ax v) g (λ v. after_direct o v g) refl
+      (Chains.settled x.code x.words x.offsets x.places (x.at r) x.sizes (low_on (Operate (arithmetic o))) y (plain (cleared high)) (place r k) (place r (k + 1)) (rows_stand r k (op.Low (lows.Operate o (rights.Plain y)) high) e))
+      (omega arith) (omega (arith, cleared_pace high)) (refl, refl)
+      (λ at is z. low_offered o y v0 z g (stack_of ws) ∙ ap (λ o2. reads o2 widths.Byte (λ v. Own z (after_direct o v g) (stack_of ws) false given)) (place_found widths.Byte y v0 at is))
+      (λ v lt. direct_settles just_accumulator refl o high g g (stack_of ws) v a lt (tt, refl, refl, refl, refl, refl, refl))
+    where
+      low_offered : (o : Direct) (y : Place) (m q : ℕ) (g : Working) (st : List ℕ) → offered x.find x.words x.main x.handler (closed (low_on (Operate (arithmetic o)) (segment_of y)) m) q g st false given
+          ≡ reads (Offers.where_at x.find x.words x.main x.handler given widths.Byte (segment_of y) None m g) widths.Byte (λ v. Own q (after_direct o v g) st false given)
+      low_offered directs.Add y m q g st = refl
+      low_offered directs.Subtract y m q g st = refl
+      low_offered directs.And y m q g st = refl
+      low_offered directs.Or y m q g st = refl
+      low_offered directs.ExclusiveOr y m q g st = refl
+
+  both_registers : Registers
+  both_registers = record none { accumulator = true; right = true }
+
+  operate_top_row : (o : Direct) (high : High) → RowFollows (op.Low (lows.Operate o rights.Top) high)
+  unfolding both_registers
+  operate_top_row o high r k e g n go a inv [] p sm = bad r k (op.Low (lows.Operate o rights.Top) high) e g n go a inv [] p sm refl
+  operate_top_row o high r k e g n go a inv (Return q ∷ ws) p sm = bad r k (op.Low (lows.Operate o rights.Top) high) e g n go a inv (Return q ∷ ws) p sm refl
+  operate_top_row o high r k e g n go a inv (Value v ∷ ws) p sm =
+      let g0 = Cores.swapped laws x.find x.words x.main x.handler given Cx g in
+      let g1 = set_word g0 Ax v in
+      let c = g.ax % 256 in
+      let t = direct_settles both_registers refl o high g g1 (stack_of ws) c sm.0 (omega arith) (tt, tt, refl, refl, refl, refl, refl) in
+      silent r k (op.Low (lows.Operate o rights.Top) high) e g n go a inv (Value v ∷ ws) p sm (exchange Cx) (pop Ax ∷ byte_alu (arithmetic o) Al Cl ∷ cleared high) (of_bytes o high v c) ws t.0 refl
+      (rows_stand r k (op.Low (lows.Operate o rights.Top) high) e) (omega (arith, cleared_pace high))
+      (g0, v ∷ stack_of ws, Cores.exchanges laws x.find x.words x.main x.handler given Cx refl refl g (v ∷ stack_of ws), (g1, stack_of ws, λ q. refl, (after_direct o c g1, stack_of ws, λ q. ap (λ z. Does (Silent (Own q z (stack_of ws) false given))) (direct_leaves o c g1), t.1))) t.2 t.3 sm.1 t.4
+
+  operate_row : (o : Direct) (y : Right) (high : High) → RowFollows (op.Low (lows.Operate o y) high)
+  operate_row o (rights.Constant c) high = operate_constant_row o c high
+  operate_row o (rights.Plain y) high = operate_plain_row o y high
+  operate_row o rights.Top high = operate_top_row o high
+
+  low_byte_row : (low : LowByte) (high : High) → RowFollows (op.Low low high)
+  low_byte_row (lows.Constant c) high = low_constant_row c high
+  low_byte_row (lows.Load y) high = low_load_row y high
+  low_byte_row (lows.LoadAt y) high = low_load_at_row y high
+  low_byte_row lows.LoadThere high = low_load_there_row high
+  low_byte_row lows.Receive high = low_receive_row high
+  low_byte_row (lows.ReceiveFrom port) high = low_receive_from_row port high
+  low_byte_row lows.High high = low_high_row high
+  low_byte_row (lows.Operate o y) high = operate_row o y high
+
   -- ---- jumps
 
   module _ (r : Routine) (k : ℕ) (ins : Instruction) (e : slice_get (x.icode r) k ≡ Some ins) (g : Working) (n : ℕ) (go : Later n) (a : g.ax < 65536) (inv : Inv g) (ws : List Word) (p : P (At r k g.ax ws)) (sm : Small ws) where
@@ -840,6 +1096,26 @@ module _ (laws : Laws) (x : Image) (all : IsSelected x)
         (λ j le. branches r k ins e g n go a inv ws p sm (fails o) (stands o g.ax v) (Touch (Read widths.Byte w) d) (u ∙ ap (λ q. loaded widths.Byte q d) ow) t g.ax ws h (v, lt, refl) fails_so refl a sm
         (subst (λ q. OnlyChanges q g h) right (refl, tt, refl, refl, refl, refl, refl)) s.0 s.2 j (omega (arith, l, le))))
 
+    abbrev compared_low : (c : ℕ) → Working
+    compared_low c = set_flags g (operated Cmp widths.Byte (g.ax % 256) c g.flags).flags
+
+    low_constant_jumps : (o : Relation) (v t : ℕ) → does_so r k ins e g n go a inv ws p sm ≡ jumped x.offsets x.sizes (test.Low o (rights.Constant v)) r (k + 1) t g.ax ws → Chain r (place r k) (Rows.unless (test.Low o (rights.Constant v)) (first r t)) (place r (k + 1)) → Fl n 8 (At r k g.ax ws) (Own (place r k) g (stack_of ws) false given)
+    low_constant_jumps o v t u c =
+        let d = At r (if stands o (g.ax % 256) (v % 256) then k + 1 else t) g.ax ws in
+        let h = compared_low (v % 256) in
+        begins r k ins e g n go a inv ws p sm (low_number Cmp v) [] 10 c.0 d h (stack_of ws) u (c.0, c.1, c.2, refl) (omega arith) (h, stack_of ws, λ q. refl, (refl, refl))
+        (branches r k ins e g n go a inv ws p sm (fails (without_sign o)) (stands o (g.ax % 256) (v % 256)) (Silent d) u t g.ax ws h refl (Flags.byte_fails_where laws o (g.ax % 256) (v % 256) g.flags (omega arith) (omega arith)) refl a sm (stays (changes ins) g) c.0 c.3)
+
+    low_plain_jumps : (o : Relation) (y : Place) (t : ℕ) → does_so r k ins e g n go a inv ws p sm ≡ jumped x.offsets x.sizes (test.Low o (rights.Plain y)) r (k + 1) t g.ax ws → Chain r (place r k) (Rows.unless (test.Low o (rights.Plain y)) (first r t)) (place r (k + 1)) → Fl n 8 (At r k g.ax ws) (Own (place r k) g (stack_of ws) false given)
+    low_plain_jumps o y t u c =
+        let v0 = address x.offsets x.sizes y 0 in
+        let d = λ (v : ℕ). At r (if stands o (g.ax % 256) v then k + 1 else t) g.ax ws in
+        reading r k ins e g n go a inv ws p sm widths.Byte [] (closed (low_on (Operate Cmp) (segment_of y)) v0) (GotoIf (fails (without_sign o)) (first r t) ∷ []) (place r (k + 1)) (found x.offsets x.sizes widths.Byte y v0) d g compared_low u
+        (Chains.settled x.code x.words x.offsets x.places (x.at r) x.sizes (low_on (Operate Cmp)) y (GotoIf (fails (without_sign o)) (first r t) ∷ []) (place r k) (place r (k + 1)) c) (omega arith) (refl, refl)
+        (λ at is z. ap (λ q. reads q widths.Byte (λ v. Own z (compared_low v) (stack_of ws) false given)) (place_found widths.Byte y v0 at is))
+        (λ w ow z c2 v lt m l. looser m 10 20 (d v) (Own z (compared_low v) (stack_of ws) false given) (omega arith)
+        (branches r k ins e g n go a inv ws p sm (fails (without_sign o)) (stands o (g.ax % 256) v) (Touch (Read widths.Byte w) d) (u ∙ ap (λ q. loaded widths.Byte q d) ow) t g.ax ws (compared_low v) (v, lt, refl) (Flags.byte_fails_where laws o (g.ax % 256) v g.flags (omega arith) lt) refl a sm (stays (changes ins) g) z c2 m l))
+
   module _ (r : Routine) (k : ℕ) (ins : Instruction) (e : slice_get (x.icode r) k ≡ Some ins) (g : Working) (n : ℕ) (go : Later n) (a : g.ax < 65536) (inv : Inv g) where
     abbrev DoesSo : List Word → Action Access machine.Context
     DoesSo ws = run x.offsets x.sizes (x.icode r) ins r (k + 1) g.ax ws
@@ -855,12 +1131,26 @@ module _ (laws : Laws) (x : Image) (all : IsSelected x)
         (branches r k ins e g n go a inv (Value v ∷ ws) p sm (fails o) (stands o v g.ax) (Silent d) u t g.ax ws h refl (Flags.fails_where laws o v g.ax h1.flags sm.0 a) refl a sm.1
         (subst (λ q. OnlyChanges q g h) right (refl, tt, refl, refl, refl, refl, refl)) c.3.0 c.3.3)
 
+    low_top_jumps : (o : Relation) (t : ℕ) → just_right ≡ changes ins → (ws : List Word) (p : P (At r k g.ax ws)) (sm : Small ws) → DoesSo ws ≡ jumped x.offsets x.sizes (test.Low o rights.Top) r (k + 1) t g.ax ws → Chain r (place r k) (Rows.unless (test.Low o rights.Top) (first r t)) (place r (k + 1)) → Fl n 8 (At r k g.ax ws) (Own (place r k) g (stack_of ws) false given)
+    low_top_jumps o t right [] p sm u c = bad r k ins e g n go a inv [] p sm u
+    low_top_jumps o t right (Return q ∷ ws) p sm u c = bad r k ins e g n go a inv (Return q ∷ ws) p sm u
+    low_top_jumps o t right (Value v ∷ ws) p sm u c =
+        let h1 = set_word g Cx v in
+        let h = set_flags h1 (operated Cmp widths.Byte (v % 256) (g.ax % 256) h1.flags).flags in
+        let d = At r (if stands o (v % 256) (g.ax % 256) then k + 1 else t) g.ax ws in
+        begins r k ins e g n go a inv (Value v ∷ ws) p sm (pop Cx) (byte_alu Cmp Cl Al ∷ []) 10 c.3.0 d h (stack_of ws) u (c.0, c.1, c.2, (c.3.0, c.3.1, c.3.2, refl)) (omega arith) (h1, stack_of ws, λ q. refl, (h, stack_of ws, λ q. refl, (refl, refl)))
+        (branches r k ins e g n go a inv (Value v ∷ ws) p sm (fails (without_sign o)) (stands o (v % 256) (g.ax % 256)) (Silent d) u t g.ax ws h refl (Flags.byte_fails_where laws o (v % 256) (g.ax % 256) h1.flags (omega arith) (omega arith)) refl a sm.1
+        (subst (λ q. OnlyChanges q g h) right (refl, tt, refl, refl, refl, refl, refl)) c.3.0 c.3.3)
+
     test_jumps : (t : Test) (target : ℕ) → of_test t ≡ changes ins → ((o : Relation) (v : ℕ) → t ≡ test.Constant o v → v < 65536) → (ws : List Word) (p : P (At r k g.ax ws)) (sm : Small ws)
         → DoesSo ws ≡ jumped x.offsets x.sizes t r (k + 1) target g.ax ws → Chain r (place r k) (Rows.unless t (first r target)) (place r (k + 1)) → Fl n 8 (At r k g.ax ws) (Own (place r k) g (stack_of ws) false given)
     test_jumps test.Odd target right num ws p sm u c = odd_jumps r k ins e g n go a inv ws p sm target u c
     test_jumps (test.Constant o v) target right num ws p sm u c = constant_jumps r k ins e g n go a inv ws p sm o v target (num o v refl) u c
     test_jumps (test.Plain o widths.Byte y) target right num ws p sm u c = byte_jumps r k ins e g n go a inv ws p sm o y target right u c
     test_jumps (test.Plain o widths.Word y) target right num ws p sm u c = word_jumps r k ins e g n go a inv ws p sm o y target u c
+    test_jumps (test.Low o (rights.Constant v)) target right num ws p sm u c = low_constant_jumps r k ins e g n go a inv ws p sm o v target u c
+    test_jumps (test.Low o (rights.Plain y)) target right num ws p sm u c = low_plain_jumps r k ins e g n go a inv ws p sm o y target u c
+    test_jumps (test.Low o rights.Top) target right num ws p sm u c = low_top_jumps o target right ws p sm u c
     test_jumps (test.Top o) target right num ws p sm u c = top_jumps o target right ws p sm u c
 
   ahead_numbered : (t : Test) (m : ℕ) → constant_in (op.AheadUnless t m) < 65536 → (o : Relation) (v : ℕ) → t ≡ test.Constant o v → v < 65536
@@ -938,6 +1228,84 @@ module _ (laws : Laws) (x : Image) (all : IsSelected x)
       by : (g.ax < m) ⊎ (m ≤ g.ax) → Fl n 8 (At r k g.ax ws) (Own (place r k) g (stack_of ws) false given)
       by (inl l) = chosen l
       by (inr l) = past l
+
+  -- ---- the end of a round
+
+  -- a jump follows the store, or none where the sum never stays
+  asks_or_not : (width : Width) (s : ℕ) → s < 65536 → (r : Routine) (z t q : ℕ) → Chain r z (Rows.again width s t) q → ((s < values width) × Chain r z (GotoIf (Rows.stays_in_range s) t ∷ []) q) ⊎ ((values width ≤ s) × (z ≡ q))
+  asks_or_not widths.Word s l r z t q c = inl (l, c)
+  asks_or_not widths.Byte s l r z t q c = by (nat_le 256 s) refl c
+    where
+      by : (b : Bool) → nat_le 256 s ≡ b → Chain r z (if b then [] else GotoIf (Rows.stays_in_range s) t ∷ []) q → ((s < 256) × Chain r z (GotoIf (Rows.stays_in_range s) t ∷ []) q) ⊎ ((256 ≤ s) × (z ≡ q))
+      by true e c = inr (leb-true 256 s e, c)
+      by false e c = inl (leb-false 256 s e, c)
+
+  module _ (width : Width) (y : Place) (s m : ℕ) (r : Routine) (k : ℕ) (e : slice_get (x.icode r) k ≡ Some (op.Next width y s m)) (g : Working) (n : ℕ) (go : Later n) (a : g.ax < 65536) (inv : Inv g) (ws : List Word) (p : P (At r k g.ax ws)) (sm : Small ws) where
+    -- the sum left the range of its width
+    abbrev sum_left : Bool
+    sum_left = nat_lt (low width (g.ax + s)) s
+
+    abbrev new_accumulator : ℕ
+    new_accumulator = with_low width g.ax (g.ax + s)
+
+    abbrev round_at : ℕ
+    round_at = k + 1 - m
+
+    abbrev then_at : Bool → machine.Context
+    then_at b = At r (if b then k + 1 else round_at) new_accumulator ws
+
+    -- after the store
+    module _ (at : Where) (is : found x.offsets x.sizes width y (address x.offsets x.sizes y 0) ≡ Some at) (h : Working) (ax : h.ax ≡ new_accumulator) (keep : OnlyChanges just_accumulator g h) where
+      abbrev written : Action Access machine.Context
+      written = Touch (Write width at (low width (g.ax + s))) (λ _. then_at sum_left)
+
+      writes_so : does_so r k (op.Next width y s m) e g n go a inv ws p sm ≡ written
+      writes_so = ap (λ o. stored width o (g.ax + s) (then_at sum_left)) is
+
+      small : new_accumulator < 65536
+      small = Rounds.with_low_small width g.ax (g.ax + s) a
+
+      -- with a jump, and without
+      asks : holds (Rows.stays_in_range s) h.flags ≡ not sum_left → (z : ℕ) → Chain r z (GotoIf (Rows.stays_in_range s) (first r round_at) ∷ []) (place r (k + 1)) → (v : ℕ) → v < answers (Write width at (low width (g.ax + s))) → (j : ℕ) → j < n
+          → Fl j 20 (then_at sum_left) (Own z h (stack_of ws) false given)
+      asks tells z c v lt j l =
+          looser j 10 20 (then_at sum_left) (Own z h (stack_of ws) false given) (omega arith)
+          (branches r k (op.Next width y s m) e g n go a inv ws p sm (Rows.stays_in_range s) sum_left written writes_so round_at new_accumulator ws h (v, lt, refl) tells ax small sm keep z c j l)
+
+      asks_nothing : sum_left ≡ true → (z : ℕ) → z ≡ place r (k + 1) → (v : ℕ) → v < answers (Write width at (low width (g.ax + s))) → (j : ℕ) → j < n → Fl j 20 (then_at sum_left) (Own z h (stack_of ws) false given)
+      asks_nothing past z c v lt j l =
+          subst (λ (b : Bool). Fl j 20 (then_at b) (Own z h (stack_of ws) false given)) (sym past)
+          (looser j 8 20 (then_at true) (Own z h (stack_of ws) false given) (omega arith)
+          (lands r k (op.Next width y s m) e g n go a inv ws p sm j l written writes_so r (k + 1) new_accumulator z ws h (stack_of ws) (v, lt, ap then_at past) c refl ax small sm keep))
+
+      goes_on : (s < values width → holds (Rows.stays_in_range s) h.flags ≡ not sum_left) → (z : ℕ) → Chain r z (Rows.again width s (first r round_at)) (place r (k + 1)) → (v : ℕ) → v < answers (Write width at (low width (g.ax + s))) → (j : ℕ) → j < n
+          → Fl j 20 (then_at sum_left) (Own z h (stack_of ws) false given)
+      goes_on tells z c v lt j l = by (asks_or_not width s ((all.made r).numbered k (op.Next width y s m) e) r z (first r round_at) (place r (k + 1)) c)
+        where
+          by : ((s < values width) × Chain r z (GotoIf (Rows.stays_in_range s) (first r round_at) ∷ []) (place r (k + 1))) ⊎ ((values width ≤ s) × (z ≡ place r (k + 1))) → Fl j 20 (then_at sum_left) (Own z h (stack_of ws) false given)
+          by (inl c) = asks (tells c.0) z c.1 v lt j l
+          by (inr c) = asks_nothing (lt-ltb (low width (g.ax + s)) s (let b = Rounds.low_below width (g.ax + s) in omega (arith, b, c.0))) z c.1 v lt j l
+
+    writes_then : (o : Option Where) → found x.offsets x.sizes width y (address x.offsets x.sizes y 0) ≡ o → Fl n 8 (At r k g.ax ws) (Own (place r k) g (stack_of ws) false given)
+    writes_then None is = bad r k (op.Next width y s m) e g n go a inv ws p sm (ap (λ o. stored width o (g.ax + s) (then_at sum_left)) is)
+    writes_then (Some at) is =
+        let v0 = address x.offsets x.sizes y 0 in
+        let w = Rounds.step_gives laws x.find x.words x.main x.handler given width s g (stack_of ws) a in
+        let h = w.0 in
+        let c = rows_stand r k (op.Next width y s m) e in
+        let after = Rows.again width s (first r round_at) in
+        let small : h.ax < 65536 = subst (λ z. z < 65536) (sym w.2) (Rounds.with_low_small width g.ax (g.ax + s) a) in
+        let taken : output_takes width h ≡ low width (g.ax + s) = takes_low width h small ∙ ap (low width) w.2 ∙ Rounds.low_kept width g.ax (g.ax + s) in
+        touching r k (op.Next width y s m) e g n go a inv ws p sm (Rows.step_added width s ∷ []) (closed (stores width None (segment_of y)) v0) after (place r (k + 1)) (Write width at (low width (g.ax + s))) (λ _. then_at sum_left) h (stack_of ws) (λ _. h)
+        (writes_so at is h w.2 w.4)
+        (c.0, c.1, c.2, Chains.settled x.code x.words x.offsets x.places (x.at r) x.sizes (stores width None) y after c.0 (place r (k + 1)) c.3) (omega arith) w.1
+        (λ z. Offers.store_offered x.find x.words x.main x.handler given width y None v0 z h (stack_of ws)
+        ∙ ap (λ q. writes q width (output_takes width h) (Own z h (stack_of ws) false given)) (place_found width y v0 at is ∙ is)
+        ∙ ap (λ q. Does (Touch (Write width at q) (λ _. Own z h (stack_of ws) false given))) taken)
+        (goes_on at is h w.2 w.4 w.3)
+
+  next_row : (width : Width) (y : Place) (s m : ℕ) → RowFollows (op.Next width y s m)
+  next_row width y s m r k e g n go a inv ws p sm = writes_then width y s m r k e g n go a inv ws p sm (found x.offsets x.sizes width y (address x.offsets x.sizes y 0)) refl
 
   -- ---- calls, interrupts, ends
 
@@ -1057,6 +1425,7 @@ module _ (laws : Laws) (x : Image) (all : IsSelected x)
     row_follows (op.Load width y) = load_row width y
     row_follows (op.LoadAt width y) = load_at_row width y
     row_follows (op.LoadThere width) = load_there_row width
+    row_follows (op.Low low high) = low_byte_row low high
     row_follows op.Push = push_row
     row_follows (op.Pick m) = pick_row m
     row_follows (op.Drop m) = drop_row m
@@ -1067,6 +1436,7 @@ module _ (laws : Laws) (x : Image) (all : IsSelected x)
     row_follows (op.Store width y) = store_row width y
     row_follows (op.StoreAt width y) = store_at_row width y
     row_follows (op.StoreThere width) = store_there_row width
+    row_follows (op.StoreTop width y) = store_top_row width y
     row_follows (op.Send width) = send_row width
     row_follows (op.SendTo width port) = send_to_row width port
     row_follows (op.Receive width) = receive_row width
@@ -1075,6 +1445,7 @@ module _ (laws : Laws) (x : Image) (all : IsSelected x)
     row_follows (op.AheadUnless t m) = λ r k e g n go a inv ws p sm. test_jumps r k (op.AheadUnless t m) e g n go a inv t (k + 1 + m) refl (ahead_numbered t m ((all.made r).numbered k (op.AheadUnless t m) e)) ws p sm refl (rows_stand r k (op.AheadUnless t m) e)
     row_follows (op.Back m) = λ r k e g n go a inv ws p sm. jumps r k (op.Back m) e g n go a inv ws p sm (k + 1 - m) refl (rows_stand r k (op.Back m) e)
     row_follows (op.BackUnless t m) = λ r k e g n go a inv ws p sm. test_jumps r k (op.BackUnless t m) e g n go a inv t (k + 1 - m) refl (back_numbered t m ((all.made r).numbered k (op.BackUnless t m) e)) ws p sm refl (rows_stand r k (op.BackUnless t m) e)
+    row_follows (op.Next width y s m) = next_row width y s m
     row_follows (op.Switch m) = switch_row m
     row_follows (op.Case m) = case_row m
     row_follows (op.Invoke q) = invoke_row q

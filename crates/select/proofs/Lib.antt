@@ -13,6 +13,7 @@ pub mod Engine
 pub mod Arming
 pub mod Stacks
 pub mod Offers
+pub mod Rounds
 pub mod Tables
 pub mod Following
 pub mod Routines
@@ -28,3 +29,4 @@ pub mod Saving
 pub mod Rooming
 pub mod Totalling
 pub mod Drafting
+pub mod LowRows

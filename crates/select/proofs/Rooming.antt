@@ -32,6 +32,7 @@ use Rattle.i86_table.specs.declared.instruction.TestMask.TheVariants as masks
 use Rattle.i86_table.specs.declared.instruction.Port.TheVariants as ports
 use Rattle.i86_table.specs.declared.instruction.Instr.{Instr}
 use Rattle.i86_table.specs.declared.instruction.Instr.TheVariants as i
+use Rattle.i86_table.specs.declared.open.Use.TheVariants.{Operate}
 use Rattle.i86_table.specs.declared.open.Open.{Open}
 use Rattle.i86_table.specs.declared.open.Open.TheVariants as opens
 use Rattle.i86_table.specs.Open.{closed}
@@ -48,6 +49,13 @@ use Rattle.i86_code.specs.Writing as writing
 use Rattle.i86_code.specs.Writing.{is_ax, is_near, is_bp, based_form, with_byte, with_word, alu_byte_of, alu_word_of, move_byte_of, move_word_of, form_of, bytes_of}
 use Rattle.icode.specs.declared.instruction.Instruction.{Instruction}
 use Rattle.icode.specs.declared.instruction.Instruction.TheVariants as op
+use Rattle.icode.specs.declared.instruction.LowByte.{LowByte}
+use Rattle.icode.specs.declared.instruction.LowByte.TheVariants as lows
+use Rattle.icode.specs.declared.instruction.High.{High}
+use Rattle.icode.specs.declared.instruction.High.TheVariants as highs
+use Rattle.icode.specs.declared.instruction.Right.{Right}
+use Rattle.icode.specs.declared.instruction.Right.TheVariants as rights
+use Rattle.icode.specs.declared.instruction.Relation.{Relation}
 use Rattle.icode.specs.declared.instruction.Test.{Test}
 use Rattle.icode.specs.declared.instruction.Test.TheVariants as test
 use Rattle.icode.specs.declared.code.Routine.{Routine}
@@ -58,9 +66,10 @@ use Rattle.icode.specs.Registers.{is_direct}
 use Rattle.icode.specs.Room as room
 use Rattle.select.specs.declared.part.Part.{Part}
 use Rattle.select.specs.declared.part.Step.{Step}
+use Rattle.select.specs.declared.part.Step.TheVariants.{GotoIf}
 use Rattle.select.specs.Parts.{extent_of}
 use Rattle.select.specs.Inner.Settling.{longest}
-use Rattle.select.specs.Rows.{exchange, load_number, accumulator_gets, compares, alu, alu_number, sum_number, sum_with, load_count, shift_word, left_by, right_by, counted, exponent, by_number, by_turned, by_product, by_quotient, by_remainder, pop, narrow, then_narrow, narrow_right, core, direct, narrow_sum, by_constant, changed, left_from_stack, dropped, loads, loads_right, stores, on_place, operates, own_word, sent, received, plain, by_read, unless, registers_of, saved, given_back, finished, row, rows, first_of, routine, picked, push, copy}
+use Rattle.select.specs.Rows.{stores_right, exchange, load_number, accumulator_gets, compares, alu, alu_number, sum_number, sum_with, increment, step_added, stays_in_range, again, load_count, shift_word, left_by, right_by, counted, exponent, by_number, by_turned, by_product, by_quotient, by_remainder, pop, narrow, then_narrow, narrow_right, core, direct, narrow_sum, by_constant, changed, from_stack, commutes, dropped, loads, loads_right, stores, on_place, operates, own_word, sent, received, plain, by_read, unless, registers_of, saved, given_back, finished, row, rows, first_of, routine, picked, push, copy, low_row, low_on, low_number, low_received, cleared, by_right, arithmetic}
 use Rattle.select.specs.Selection.{IsPartOf, ArePartsOf, part_of}
 use Rattle.select.specs.Room.{room_of, room_for, PartsHaveRoom}
 use Rattle.select.proofs.Bounding.{part_bounded}
@@ -137,6 +146,11 @@ loads_right_within : (w : Width) → IsWithin (loads_right w) 5
 unfolding form_of move_word_of move_byte_of
 loads_right_within widths.Byte = (omega arith, λ k. omega arith)
 loads_right_within widths.Word = (omega arith, λ k. omega arith)
+
+stores_right_within : (w : Width) → IsWithin (stores_right w) 5
+unfolding form_of move_word_of move_byte_of
+stores_right_within widths.Byte = (omega arith, λ k. omega arith)
+stores_right_within widths.Word = (omega arith, λ k. omega arith)
 
 stores_within : (w : Width) → IsWithin (stores w None) 4
 unfolding form_of move_word_of move_byte_of
@@ -310,9 +324,10 @@ by_constant_room binary.LessEqualSigned w k = turned_room binary.LessEqual w k (
 by_constant_room binary.GreaterSigned w k = turned_room binary.Greater w k (relation_room w).2
 by_constant_room binary.GreaterEqualSigned w k = turned_room binary.GreaterEqual w k (relation_room w).3
 
-from_stack_room : size left_from_stack ≤ 3
+from_stack_room : (b : Bool) → size (from_stack b) ≤ 3
 unfolding form_of
-from_stack_room = omega (arith, exchange_room Cx)
+from_stack_room true = omega arith
+from_stack_room false = omega (arith, exchange_room Cx)
 
 changed_room : (o : UnaryOperation) (w : Width) → size (changed o w) ≤ 4
 unfolding form_of move_byte_of
@@ -371,6 +386,50 @@ by_read_room o w widths.Word x = cases (is_direct o)
     cases true = omega (arith, on_place_room (operates (direct o)) 5 x (operates_within (direct o)), plain_room (narrow_sum o w), sum_room o w)
     cases false = omega (arith, on_place_room (loads_right widths.Word) 5 x (loads_right_within widths.Word), plain_room (core o w), core_room o w)
 
+-- ---- low bytes
+
+low_on_within : (f : AluOperation) → IsWithin (low_on (Operate f)) 5
+unfolding form_of alu_byte_of
+low_on_within f = (omega arith, λ k. omega arith)
+
+cleared_room : (h : High) → size (cleared h) ≤ room.room_of_high h
+unfolding form_of move_byte_of
+cleared_room highs.Kept = omega arith
+cleared_room highs.Cleared = omega arith
+
+low_number_room : (f : AluOperation) (k : ℕ) → length (bytes_of (low_number f k)) ≤ 3
+unfolding form_of alu_byte_of
+low_number_room f k = omega arith
+
+by_right_room : (f : AluOperation) (x : Right) (ns : List Instr) → most (by_right f x ns) ≤ room.room_of_right x + size ns
+unfolding form_of alu_byte_of
+by_right_room f (rights.Constant k) ns = omega (arith, plain_room ns, low_number_room f k)
+by_right_room f (rights.Plain x) ns = omega (arith, on_place_room (low_on (Operate f)) 5 x (low_on_within f), plain_room ns)
+by_right_room f rights.Top ns = omega (arith, exchange_room Cx, plain_room ns)
+
+low_received_room : (port : ℕ) (ns : List Instr) → size (low_received port ns) ≤ 4 + size ns
+unfolding form_of move_word_of
+low_received_room port ns = cases (nat_le 256 port)
+  where
+    cases : (b : Bool) → size (if b then load_number Dx port ∷ i.In widths.Byte ports.Dx ∷ ns else i.In widths.Byte (ports.Fixed port) ∷ ns) ≤ 4 + size ns
+    cases true = omega arith
+    cases false = omega arith
+
+low_row_room : (low : LowByte) (ns : List Instr) → most (low_row low ns) ≤ room.room_of_low low + size ns
+unfolding form_of move_byte_of move_word_of based_form
+low_row_room (lows.Constant k) ns = omega (arith, plain_room ns)
+low_row_room (lows.Load x) ns = omega (arith, on_place_room (loads widths.Byte None) 4 x (loads_within widths.Byte), plain_room ns)
+low_row_room (lows.LoadAt x) ns = omega (arith, on_place_room (loads widths.Byte (Some bases.Bx)) 5 x (loads_at_within widths.Byte), plain_room ns)
+low_row_room lows.LoadThere ns = omega (arith, plain_room ns)
+low_row_room lows.Receive ns = omega (arith, plain_room ns)
+low_row_room (lows.ReceiveFrom port) ns = omega (arith, plain_room (low_received port ns), low_received_room port ns)
+low_row_room lows.High ns = omega (arith, plain_room ns)
+low_row_room (lows.Operate o x) ns = by_right_room (arithmetic o) x ns
+
+byte_top_room : (o : Relation) (target : ℕ) → most (unless (test.Low o rights.Top) target) ≤ 10
+unfolding form_of alu_byte_of
+byte_top_room o target = omega arith
+
 unless_room : (t : Test) (target : ℕ) → most (unless t target) ≤ room.room_of_test t
 unfolding form_of alu_word_of move_byte_of
 unless_room test.Odd target = omega arith
@@ -378,6 +437,27 @@ unless_room (test.Constant o k) target = omega (arith, compares_room k)
 unless_room (test.Plain o widths.Byte x) target = omega (arith, on_place_room (loads_right widths.Byte) 5 x (loads_right_within widths.Byte))
 unless_room (test.Plain o widths.Word x) target = omega (arith, on_place_room (operates Cmp) 5 x (operates_within Cmp))
 unless_room (test.Top o) target = omega arith
+unless_room (test.Low o (rights.Constant k)) target = omega (arith, low_number_room Cmp k)
+unless_room (test.Low o (rights.Plain x)) target = omega (arith, on_place_room (low_on (Operate Cmp)) 5 x (low_on_within Cmp))
+unless_room (test.Low o rights.Top) target = byte_top_room o target
+
+step_room : (w : Width) (k : ℕ) → length (bytes_of (step_added w k)) ≤ 3
+unfolding form_of alu_word_of alu_byte_of
+step_room w k = cases (nat_eq k 1) w
+  where
+    cases : (b : Bool) (w : Width) → length (bytes_of (if b then increment w else sum_number Add w k)) ≤ 3
+    cases true widths.Byte = omega arith
+    cases true widths.Word = omega arith
+    cases false widths.Byte = omega arith
+    cases false widths.Word = omega arith
+
+again_room : (w : Width) (k target : ℕ) → most (again w k target) ≤ 5
+again_room widths.Byte k target = cases (nat_le 256 k)
+  where
+    cases : (b : Bool) → most (if b then [] else GotoIf (stays_in_range k) target ∷ []) ≤ 5
+    cases true = omega arith
+    cases false = omega arith
+again_room widths.Word k target = omega arith
 
 -- ---- registers
 
@@ -421,17 +501,19 @@ module _ (first : ℕ → ℕ) (part : ℕ → ℕ) (saves : Registers) where
   row_room p (op.LoadAt width x) = omega (arith, exchange_room Bx, on_place_room (loads width (Some bases.Bx)) 5 x (loads_at_within width), plain_room (narrow width), narrow_room width)
   row_room p (op.LoadThere widths.Byte) = omega (arith, exchange_room Bx)
   row_room p (op.LoadThere widths.Word) = omega (arith, exchange_room Bx)
+  row_room p (op.Low low high) = omega (arith, low_row_room low (cleared high), cleared_room high)
   row_room p op.Push = omega arith
   row_room p (op.Pick n) = omega (arith, plain_room (picked n), picked_room n)
   row_room p (op.Drop n) = omega (arith, dropped_room n)
   row_room p (op.Unary o width) = omega (arith, plain_room (changed o width), changed_room o width)
-  row_room p (op.Binary o width) = omega (arith, plain_room (left_from_stack ++ core o width), size-append left_from_stack (core o width), from_stack_room, core_room o width)
+  row_room p (op.Binary o width) = omega (arith, plain_room (from_stack (commutes o) ++ core o width), size-append (from_stack (commutes o)) (core o width), from_stack_room (commutes o), core_room o width)
   row_room p (op.BinaryConstant o width k) = omega (arith, plain_room (by_constant o width k), by_constant_room o width k)
   row_room p (op.BinaryPlain o width read x) = by_read_room o width read x
   row_room p (op.Store width x) = omega (arith, on_place_room (stores width None) 4 x (stores_within width))
   row_room p (op.StoreAt width x) = omega (arith, exchange_room Bx, on_place_room (stores width (Some bases.Bx)) 5 x (stores_at_within width))
   row_room p (op.StoreThere widths.Byte) = omega (arith, exchange_room Bx)
   row_room p (op.StoreThere widths.Word) = omega (arith, exchange_room Bx)
+  row_room p (op.StoreTop width x) = omega (arith, on_place_room (stores_right width) 5 x (stores_right_within width))
   row_room p (op.Send width) = omega (arith, exchange_room Dx)
   row_room p (op.SendTo width port) = omega (arith, plain_room (sent width port), sent_room width port)
   row_room p (op.Receive width) = omega (arith, exchange_room Dx, plain_room (narrow width), narrow_room width)
@@ -440,6 +522,7 @@ module _ (first : ℕ → ℕ) (part : ℕ → ℕ) (saves : Registers) where
   row_room p (op.AheadUnless t n) = unless_room t (first (p + n))
   row_room p (op.Back n) = omega arith
   row_room p (op.BackUnless t n) = unless_room t (first (p - n))
+  row_room p (op.Next width x k n) = omega (arith, step_room width k, on_place_room (stores width None) 4 x (stores_within width), again_room width k (first (p - n)))
   row_room p (op.Switch n) = omega arith
   row_room p (op.Case n) = omega arith
   row_room p (op.Invoke q) = omega arith

@@ -4,16 +4,19 @@ use Rattle.std.specs.Prelude.{map, Bool, true, false, nat_eq, nat_le, if◌then�
 use Rattle.std.specs.Prelude as prelude
 use Rattle.std.proofs.lemmas.List.Sums.{sum_by-cons}
 use Rattle.std.proofs.lemmas.List.{length-map}
+use Rattle.word86.specs.declared.width.Width.{Width}
 use Rattle.word86.specs.declared.width.Width.TheVariants as widths
 use Rattle.i86_table.specs.declared.instruction.Instr.{Instr}
 use Rattle.icode.specs.declared.instruction.Instruction.{Instruction}
 use Rattle.icode.specs.declared.instruction.Instruction.TheVariants as op
 use Rattle.icode.specs.declared.instruction.Test.{Test}
 use Rattle.icode.specs.declared.instruction.Test.TheVariants as test
+use Rattle.icode.specs.declared.instruction.Right.TheVariants as rights
 use Rattle.icode.specs.declared.registers.Registers.{Registers}
 use Rattle.select.specs.declared.part.Step.{Step}
+use Rattle.select.specs.declared.part.Step.TheVariants.{GotoIf}
 use Rattle.select.specs.Linked.{AllStand}
-use Rattle.select.specs.Rows.{row, rows, steps_in, first_of, routine, plain, unless, by_read, narrow_sum, loads_right, on_place, core, narrow_right, direct, spot, registers_of, saved}
+use Rattle.select.specs.Rows.{row, rows, steps_in, first_of, routine, plain, unless, stays_in_range, again, by_read, narrow_sum, loads_right, on_place, core, narrow_right, direct, spot, registers_of, saved}
 use Rattle.select.proofs.Chains
 
 -- the number of steps does not depend on where they lead
@@ -23,6 +26,17 @@ unless_size (test.Constant o k) a b = refl
 unless_size (test.Plain o widths.Byte x) a b = refl
 unless_size (test.Plain o widths.Word x) a b = refl
 unless_size (test.Top o) a b = refl
+unless_size (test.Low o (rights.Constant k)) a b = refl
+unless_size (test.Low o (rights.Plain x)) a b = refl
+unless_size (test.Low o rights.Top) a b = refl
+
+again_size : (w : Width) (k a b : ℕ) → length (again w k a) ≡ length (again w k b)
+again_size widths.Byte k a b = by (nat_le 256 k)
+  where
+    by : (c : Bool) → length (if c then [] else GotoIf (stays_in_range k) a ∷ []) ≡ length (if c then [] else GotoIf (stays_in_range k) b ∷ [])
+    by true = refl
+    by false = refl
+again_size widths.Word k a b = refl
 
 pub row_size : (first : ℕ → ℕ) (part : ℕ → ℕ) (saves : Registers) (p : ℕ) (n : Instruction) → length (row first part saves p n) ≡ steps_in saves n
 row_size first part saves p (op.Constant k) = refl
@@ -31,6 +45,7 @@ row_size first part saves p (op.LocateAt x) = refl
 row_size first part saves p (op.Load width x) = refl
 row_size first part saves p (op.LoadAt width x) = refl
 row_size first part saves p (op.LoadThere width) = refl
+row_size first part saves p (op.Low low high) = refl
 row_size first part saves p op.Push = refl
 row_size first part saves p (op.Pick n) = refl
 row_size first part saves p (op.Drop n) = refl
@@ -41,6 +56,7 @@ row_size first part saves p (op.BinaryPlain o width read x) = refl
 row_size first part saves p (op.Store width x) = refl
 row_size first part saves p (op.StoreAt width x) = refl
 row_size first part saves p (op.StoreThere width) = refl
+row_size first part saves p (op.StoreTop width x) = refl
 row_size first part saves p (op.Send width) = refl
 row_size first part saves p (op.SendTo width port) = refl
 row_size first part saves p (op.Receive width) = refl
@@ -49,6 +65,7 @@ row_size first part saves p (op.Ahead n) = refl
 row_size first part saves p (op.AheadUnless t n) = unless_size t (first (p + n)) 0
 row_size first part saves p (op.Back n) = refl
 row_size first part saves p (op.BackUnless t n) = unless_size t _ 0
+row_size first part saves p (op.Next width x k n) = ap (λ m. suc (suc m)) (again_size width k _ 0)
 row_size first part saves p (op.Switch n) = refl
 row_size first part saves p (op.Case n) = refl
 row_size first part saves p (op.Invoke q) = refl

@@ -1,5 +1,5 @@
 -- The steps of a routine: their rows depend on where they lead alone, and no jump leads past them.
-use Rattle.std.proofs.Common.{◌≡◌, ℕ, zero, suc, ◌+◌, ◌-◌, ◌<◌, ◌≤◌, ◌%◌, List, [], ◌∷◌, ◌++◌, length, take, drop, Some, refl, sym, ap, ◌∙◌, arith, slice_get, append_assoc, length-append, inl, inr, ◌⊎◌, zero-add}
+use Rattle.std.proofs.Common.{◌≡◌, ℕ, zero, suc, ◌+◌, ◌-◌, ◌<◌, ◌≤◌, ◌%◌, List, [], ◌∷◌, ◌++◌, length, take, drop, Some, None, refl, sym, ap, ◌∙◌, arith, slice_get, append_assoc, length-append, inl, inr, ◌⊎◌, zero-add}
 use Rattle.std.specs.Prelude.{Bool, true, false, nat_eq, nat_le, min, if◌then◌else◌, slice_index, slice_index_or}
 use Rattle.std.proofs.lemmas.List.{length-map, append-nil, take_all}
 use Rattle.std.proofs.lemmas.Bool.{cases_lt}
@@ -16,6 +16,9 @@ use Rattle.icode.specs.declared.instruction.Instruction.{Instruction}
 use Rattle.icode.specs.declared.instruction.Instruction.TheVariants as op
 use Rattle.icode.specs.declared.instruction.Test.{Test}
 use Rattle.icode.specs.declared.instruction.Test.TheVariants as test
+use Rattle.icode.specs.declared.instruction.LowByte.{LowByte}
+use Rattle.icode.specs.declared.instruction.LowByte.TheVariants as lows
+use Rattle.icode.specs.declared.instruction.Right.TheVariants as rights
 use Rattle.icode.specs.declared.registers.Registers.{Registers}
 use Rattle.icode.specs.Heights.{target}
 use Rattle.icode.specs.Made.{IsMade}
@@ -32,7 +35,7 @@ use Rattle.i86_table.specs.declared.instruction.Condition.TheVariants as conditi
 use Rattle.i86_table.specs.declared.instruction.ShiftOperation.TheVariants as shifts
 use Rattle.i86_table.specs.declared.instruction.AluOperation.TheVariants.{Cmp}
 use Rattle.i86_table.specs.declared.open.Open.TheVariants as opens
-use Rattle.select.specs.Rows.{row, rows, steps_in, first_of, routine, plain, unless, placed, saved, registers_of, given_back, changed, push, alu_number, copy, spot, left_from_stack, core, by_constant, then_narrow, narrow_right}
+use Rattle.select.specs.Rows.{row, rows, steps_in, first_of, routine, plain, unless, stays_in_range, again, step_added, on_place, stores, placed, saved, registers_of, given_back, changed, push, alu_number, copy, spot, from_stack, commutes, core, by_constant, then_narrow, narrow_right, low_row, low_gets, cleared}
 use Rattle.select.specs.Inner.Assembly.{IsStepOf, AreSteps, nothing}
 use Rattle.select.specs.Inner.Numbering.{step_at}
 use Rattle.select.proofs.Cores.{some_constant}
@@ -54,6 +57,7 @@ module _ (f g : ℕ → ℕ) (h j : ℕ → ℕ) (saves : Registers) (same : (k 
   row_same p (op.Load w x) = refl
   row_same p (op.LoadAt w x) = refl
   row_same p (op.LoadThere w) = refl
+  row_same p (op.Low low high) = refl
   row_same p op.Push = refl
   row_same p (op.Pick n) = refl
   row_same p (op.Drop n) = refl
@@ -64,6 +68,7 @@ module _ (f g : ℕ → ℕ) (h j : ℕ → ℕ) (saves : Registers) (same : (k 
   row_same p (op.Store w x) = refl
   row_same p (op.StoreAt w x) = refl
   row_same p (op.StoreThere w) = refl
+  row_same p (op.StoreTop w x) = refl
   row_same p (op.Send w) = refl
   row_same p (op.SendTo w port) = refl
   row_same p (op.Receive w) = refl
@@ -72,6 +77,7 @@ module _ (f g : ℕ → ℕ) (h j : ℕ → ℕ) (saves : Registers) (same : (k 
   row_same p (op.AheadUnless t n) = ap (unless t) (same (p + n))
   row_same p (op.Back n) = ap (λ z. Goto z ∷ []) (same (p - n))
   row_same p (op.BackUnless t n) = ap (unless t) (same (p - n))
+  row_same p (op.Next w x k n) = ap (λ z. Plain (step_added w k) ∷ on_place (stores w None) x ∷ again w k z) (same (p - n))
   row_same p (op.Switch n) = ap (λ z. switched n z (f p)) (same (p + n)) ∙ ap (switched n (g (p + n))) (same p)
   row_same p (op.Case n) = ap (λ z. Word z ∷ []) (same (p + n))
   row_same p (op.Invoke q) = ap (λ z. row f (λ k. z) saves p (op.Invoke q)) (alike q)
@@ -109,6 +115,21 @@ some_test (test.Constant o k) a = omega arith
 some_test (test.Plain o widths.Byte x) a = omega arith
 some_test (test.Plain o widths.Word x) a = omega arith
 some_test (test.Top o) a = omega arith
+some_test (test.Low o (rights.Constant k)) a = omega arith
+some_test (test.Low o (rights.Plain x)) a = omega arith
+some_test (test.Low o rights.Top) a = omega arith
+
+some_low : (low : LowByte) (ns : List Instr) → 0 < length (low_row low ns)
+some_low (lows.Constant k) ns = omega arith
+some_low (lows.Load x) ns = omega arith
+some_low (lows.LoadAt x) ns = omega arith
+some_low lows.LoadThere ns = omega arith
+some_low lows.Receive ns = omega arith
+some_low (lows.ReceiveFrom port) ns = some_of (nat_le 256 port) _ _ _ _
+some_low lows.High ns = omega arith
+some_low (lows.Operate o (rights.Constant k)) ns = omega arith
+some_low (lows.Operate o (rights.Plain x)) ns = omega arith
+some_low (lows.Operate o rights.Top) ns = omega arith
 
 some_end : (saves : Registers) → 0 < length (plain (given_back (registers_of saves) ++ i.InterruptReturn ∷ []))
 some_end saves =
@@ -122,17 +143,23 @@ row_some saves (op.LocateAt x) = omega arith
 row_some saves (op.Load w x) = omega arith
 row_some saves (op.LoadAt w x) = omega arith
 row_some saves (op.LoadThere w) = omega arith
+row_some saves (op.Low low high) = some_low low (cleared high)
 row_some saves op.Push = omega arith
 row_some saves (op.Pick n) = some_of (nat_eq n 0) _ _ _ _
 row_some saves (op.Drop n) = omega arith
 row_some saves (op.Unary o w) = some_changed o w
-row_some saves (op.Binary o w) = omega arith
+row_some saves (op.Binary o w) = some_from_stack (commutes o)
+  where
+    some_from_stack : (b : Bool) → 0 < length (plain (from_stack b ++ core o w))
+    some_from_stack true = omega arith
+    some_from_stack false = omega arith
 row_some saves (op.BinaryConstant o w k) = omega (arith, length-map (by_constant o w k) Plain, some_constant o w k)
 row_some saves (op.BinaryPlain o w widths.Byte x) = omega arith
 row_some saves (op.BinaryPlain o w widths.Word x) = some_step (is_direct o) _ _ _ _
 row_some saves (op.Store w x) = omega arith
 row_some saves (op.StoreAt w x) = omega arith
 row_some saves (op.StoreThere w) = omega arith
+row_some saves (op.StoreTop w x) = omega arith
 row_some saves (op.Send w) = omega arith
 row_some saves (op.SendTo w port) = some_of (nat_le 256 port) _ _ _ _
 row_some saves (op.Receive w) = omega arith
@@ -141,6 +168,7 @@ row_some saves (op.Ahead n) = omega arith
 row_some saves (op.AheadUnless t n) = some_test t 0
 row_some saves (op.Back n) = omega arith
 row_some saves (op.BackUnless t n) = some_test t 0
+row_some saves (op.Next w x k n) = omega arith
 row_some saves (op.Switch n) = omega arith
 row_some saves (op.Case n) = omega arith
 row_some saves (op.Invoke q) = omega arith
@@ -197,10 +225,29 @@ test_inside many (test.Constant o k) a l = (tt, (l, tt))
 test_inside many (test.Plain o widths.Byte x) a l = (place_inside many x _ _, (tt, (tt, (l, tt))))
 test_inside many (test.Plain o widths.Word x) a l = (place_inside many x _ _, (l, tt))
 test_inside many (test.Top o) a l = (tt, (tt, (l, tt)))
+test_inside many (test.Low o (rights.Constant k)) a l = (tt, (l, tt))
+test_inside many (test.Low o (rights.Plain x)) a l = (place_inside many x _ _, (l, tt))
+test_inside many (test.Low o rights.Top) a l = (tt, (tt, (l, tt)))
+
+low_inside : (many : ℕ) (low : LowByte) (ns : List Instr) → Inside many (low_row low ns)
+low_inside many (lows.Constant k) ns = plain_inside many (low_gets k ∷ ns)
+low_inside many (lows.Load x) ns = (place_inside many x _ _, plain_inside many ns)
+low_inside many (lows.LoadAt x) ns = (tt, (place_inside many x _ _, plain_inside many ns))
+low_inside many lows.LoadThere ns = (tt, (tt, plain_inside many ns))
+low_inside many lows.Receive ns = (tt, (tt, plain_inside many ns))
+low_inside many (lows.ReceiveFrom port) ns = plain_inside many _
+low_inside many lows.High ns = (tt, plain_inside many ns)
+low_inside many (lows.Operate o (rights.Constant k)) ns = (tt, plain_inside many ns)
+low_inside many (lows.Operate o (rights.Plain x)) ns = (place_inside many x _ _, plain_inside many ns)
+low_inside many (lows.Operate o rights.Top) ns = (tt, (tt, (tt, plain_inside many ns)))
 
 either_inside : (many : ℕ) (b : Bool) (xs ys : List Step) → Inside many xs → Inside many ys → Inside many (if b then xs else ys)
 either_inside many true xs ys h e = h
 either_inside many false xs ys h e = e
+
+again_inside : (many : ℕ) (w : Width) (k a : ℕ) → a < many → Inside many (again w k a)
+again_inside many widths.Byte k a l = either_inside many (nat_le 256 k) [] (GotoIf (stays_in_range k) a ∷ []) tt (l, tt)
+again_inside many widths.Word k a l = (l, tt)
 
 at_inside : (many : ℕ) (xs : List Step) → Inside many xs → (k : ℕ) → k < length xs → IsStepOf many (slice_index_or xs k nothing)
 at_inside many [] h k l = absurd (omega (arith, l))
@@ -216,17 +263,19 @@ module _ (many : ℕ) (f h : ℕ → ℕ) (saves : Registers) where
   row_inside p (op.Load w x) to table = (place_inside many x _ _, plain_inside many _)
   row_inside p (op.LoadAt w x) to table = (tt, (place_inside many x _ _, plain_inside many _))
   row_inside p (op.LoadThere w) to table = (tt, (tt, plain_inside many _))
+  row_inside p (op.Low low high) to table = low_inside many low (cleared high)
   row_inside p op.Push to table = (tt, tt)
   row_inside p (op.Pick n) to table = plain_inside many _
   row_inside p (op.Drop n) to table = (tt, tt)
   row_inside p (op.Unary o w) to table = plain_inside many _
-  row_inside p (op.Binary o w) to table = plain_inside many (left_from_stack ++ core o w)
+  row_inside p (op.Binary o w) to table = plain_inside many (from_stack (commutes o) ++ core o w)
   row_inside p (op.BinaryConstant o w k) to table = plain_inside many _
   row_inside p (op.BinaryPlain o w widths.Byte x) to table = (place_inside many x _ _, plain_inside many (narrow_right widths.Byte ++ core o w))
   row_inside p (op.BinaryPlain o w widths.Word x) to table = either_inside many (is_direct o) _ _ (place_inside many x _ _, plain_inside many _) (place_inside many x _ _, plain_inside many _)
   row_inside p (op.Store w x) to table = (place_inside many x _ _, tt)
   row_inside p (op.StoreAt w x) to table = (tt, (tt, (place_inside many x _ _, tt)))
   row_inside p (op.StoreThere w) to table = (tt, (tt, (tt, tt)))
+  row_inside p (op.StoreTop w x) to table = (tt, (place_inside many x _ _, tt))
   row_inside p (op.Send w) to table = (tt, (tt, (tt, tt)))
   row_inside p (op.SendTo w port) to table = plain_inside many _
   row_inside p (op.Receive w) to table = (tt, plain_inside many (then_narrow w (i.In w ports.Dx)))
@@ -235,6 +284,7 @@ module _ (many : ℕ) (f h : ℕ → ℕ) (saves : Registers) where
   row_inside p (op.AheadUnless t n) to table = test_inside many t (f (p + n)) (to (p + n) refl)
   row_inside p (op.Back n) to table = (to (p - n) refl, tt)
   row_inside p (op.BackUnless t n) to table = test_inside many t (f (p - n)) (to (p - n) refl)
+  row_inside p (op.Next w x k n) to table = (tt, (place_inside many x _ _, again_inside many w k (f (p - n)) (to (p - n) refl)))
   row_inside p (op.Switch n) to table = (tt, (to (p + n) refl, (tt, (tt, (table n refl, tt)))))
   row_inside p (op.Case n) to table = (to (p + n) refl, tt)
   row_inside p (op.Invoke q) to table = (tt, tt)

@@ -50,6 +50,14 @@ use Rattle.icode.specs.declared.instruction.Relation.{Relation}
 use Rattle.icode.specs.declared.instruction.Relation.TheVariants as relation
 use Rattle.icode.specs.declared.instruction.Test.{Test}
 use Rattle.icode.specs.declared.instruction.Test.TheVariants as test
+use Rattle.icode.specs.declared.instruction.LowByte.{LowByte}
+use Rattle.icode.specs.declared.instruction.LowByte.TheVariants as lows
+use Rattle.icode.specs.declared.instruction.High.{High}
+use Rattle.icode.specs.declared.instruction.High.TheVariants as highs
+use Rattle.icode.specs.declared.instruction.Right.{Right}
+use Rattle.icode.specs.declared.instruction.Right.TheVariants as rights
+use Rattle.icode.specs.declared.instruction.Direct.{Direct}
+use Rattle.icode.specs.declared.instruction.Direct.TheVariants as directs
 use Rattle.icode.specs.declared.registers.Registers.{Registers}
 use Rattle.icode.specs.Registers.{is_direct}
 use Rattle.select.specs.declared.part.Kind.TheVariants.{Offset, Near}
@@ -223,6 +231,14 @@ sum_number f widths.Word k = alu_number f Ax k
 abbrev pub sum_with : (one : change.UnaryOperation) → AluOperation → Width → ℕ → Instr
 sum_with one f width k = if nat_eq k 1 then i.UnaryWord one (rm.Register Ax) else sum_number f width k
 
+-- a step added to AL or AX, whose flags are asked afterwards: the flags of INC AX say nothing of AL
+abbrev pub increment : Width → Instr
+increment widths.Byte = i.UnaryByte changes.Inc (rm.Register Al)
+increment widths.Word = i.UnaryWord changes.Inc (rm.Register Ax)
+
+abbrev pub step_added : Width → ℕ → Instr
+step_added width k = if nat_eq k 1 then increment width else sum_number Add width k
+
 -- a shift whose count is a constant
 abbrev pub load_count : ℕ → Instr
 load_count n = i.MoveByte (Immediate (rm.Register Cl) n)
@@ -289,9 +305,37 @@ changed unary.Low width = clear_high ∷ []
 changed unary.High width = i.MoveByte (FromRegister (rm.Register Al) Ah) ∷ clear_high ∷ []
 changed unary.Double width = i.Nop ∷ []
 
--- the left operand comes from the stack
-abbrev pub left_from_stack : List Instr
-left_from_stack = exchange Cx ∷ pop Ax ∷ []
+-- operators whose operands may change places
+abbrev pub commutes : BinaryOperation → Bool
+commutes binary.Multiply = true
+commutes binary.Divide = false
+commutes binary.Modulo = false
+commutes binary.Add = true
+commutes binary.Subtract = false
+commutes binary.Equal = false
+commutes binary.NotEqual = false
+commutes binary.Less = false
+commutes binary.LessEqual = false
+commutes binary.Greater = false
+commutes binary.GreaterEqual = false
+commutes binary.And = true
+commutes binary.Or = true
+commutes binary.ExclusiveOr = true
+commutes binary.ShiftLeft = false
+commutes binary.ShiftRight = false
+commutes binary.RotateLeft = false
+commutes binary.RotateRight = false
+commutes binary.DivideSigned = false
+commutes binary.ModuloSigned = false
+commutes binary.LessSigned = false
+commutes binary.LessEqualSigned = false
+commutes binary.GreaterSigned = false
+commutes binary.GreaterEqualSigned = false
+
+-- the left operand comes from the stack, into its place or that of the right one
+abbrev pub from_stack : (commutes : Bool) → List Instr
+from_stack true = pop Cx ∷ []
+from_stack false = exchange Cx ∷ pop Ax ∷ []
 
 -- a word of the context's own, that n others lie on
 abbrev pub own_word : ℕ → Memory
@@ -320,6 +364,9 @@ loads = access Load Al Ax
 
 abbrev pub loads_right : Width → Segment → Open
 loads_right width = access Load Cl Cx width None
+
+abbrev pub stores_right : Width → Segment → Open
+stores_right width = access Store Cl Cx width None
 
 abbrev pub stores : Width → Option Base → Segment → Open
 stores = access Store Al Ax
@@ -353,6 +400,60 @@ by_read o width widths.Byte x = on_place (loads_right widths.Byte) x ∷ plain (
 by_read o width widths.Word x =
     if is_direct o then on_place (operates (direct o)) x ∷ plain (narrow_sum o width) else on_place (loads_right widths.Word) x ∷ plain (core o width)
 
+-- ---- low bytes
+
+abbrev pub arithmetic : Direct → AluOperation
+arithmetic directs.Add = Add
+arithmetic directs.Subtract = Sub
+arithmetic directs.And = And
+arithmetic directs.Or = Or
+arithmetic directs.ExclusiveOr = Xor
+
+-- an operation on AL and the low byte of a number, or on two byte registers
+abbrev pub low_number : AluOperation → ℕ → Instr
+low_number f k = i.AluByte f (Immediate (rm.Register Al) (k % 256))
+
+abbrev pub byte_alu : AluOperation → (to from : Register8) → Instr
+byte_alu f to from = i.AluByte f (FromRegister (rm.Register to) from)
+
+abbrev pub low_gets : ℕ → Instr
+low_gets k = i.MoveByte (Immediate (rm.Register Al) (k % 256))
+
+-- AL and the byte at a place
+abbrev pub low_on : Use → Segment → Open
+low_on f segment = opens.Byte f Al (spot None segment)
+
+-- the high byte stays or becomes 0
+abbrev pub cleared : High → List Instr
+cleared highs.Kept = []
+cleared highs.Cleared = clear_high ∷ []
+
+-- an operation on AL and the right operand, and what comes then
+abbrev pub by_right : AluOperation → Right → List Instr → List Step
+by_right f (rights.Constant k) ns = plain (low_number f k ∷ ns)
+by_right f (rights.Plain x) ns = on_place (low_on (Operate f)) x ∷ plain ns
+by_right f rights.Top ns = plain (exchange Cx ∷ pop Ax ∷ byte_alu f Al Cl ∷ ns)
+
+abbrev pub low_received : (port : ℕ) → List Instr → List Instr
+low_received port ns = if nat_le 256 port then load_number Dx port ∷ i.In widths.Byte ports.Dx ∷ ns else i.In widths.Byte (ports.Fixed port) ∷ ns
+
+-- AL gets something, and what comes then
+abbrev pub low_row : LowByte → List Instr → List Step
+low_row (lows.Constant k) ns = plain (low_gets k ∷ ns)
+low_row (lows.Load x) ns = on_place (loads widths.Byte None) x ∷ plain ns
+low_row (lows.LoadAt x) ns = Plain (copy Bx Ax) ∷ on_place (loads widths.Byte (Some bases.Bx)) x ∷ plain ns
+low_row lows.LoadThere ns = Plain (copy Bx Ax) ∷ Plain (closed (loads widths.Byte (Some bases.Bx) segments.Ds) 0) ∷ plain ns
+low_row lows.Receive ns = plain (copy Dx Ax ∷ i.In widths.Byte ports.Dx ∷ ns)
+low_row (lows.ReceiveFrom port) ns = plain (low_received port ns)
+low_row lows.High ns = plain (i.MoveByte (FromRegister (rm.Register Al) Ah) ∷ ns)
+low_row (lows.Operate o x) ns = by_right (arithmetic o) x ns
+
+-- the flags of a comparison of low bytes
+abbrev pub low_compared : Right → (after : Step) → List Step
+low_compared (rights.Constant k) s = Plain (low_number Cmp k) ∷ s ∷ []
+low_compared (rights.Plain x) s = on_place (low_on (Operate Cmp)) x ∷ s ∷ []
+low_compared rights.Top s = Plain (pop Cx) ∷ Plain (byte_alu Cmp Cl Al) ∷ s ∷ []
+
 -- after a comparison: the relation does not hold
 abbrev pub fails : Relation → Condition
 fails relation.Equal = conditions.NotEqual
@@ -366,6 +467,19 @@ fails relation.LessEqualSigned = conditions.Greater
 fails relation.GreaterSigned = conditions.LessOrEqual
 fails relation.GreaterEqualSigned = conditions.Less
 
+-- the relation that bytes, which have no sign, stand in
+abbrev pub without_sign : Relation → Relation
+without_sign relation.Equal = relation.Equal
+without_sign relation.NotEqual = relation.NotEqual
+without_sign relation.Less = relation.Less
+without_sign relation.LessEqual = relation.LessEqual
+without_sign relation.Greater = relation.Greater
+without_sign relation.GreaterEqual = relation.GreaterEqual
+without_sign relation.LessSigned = relation.Less
+without_sign relation.LessEqualSigned = relation.LessEqual
+without_sign relation.GreaterSigned = relation.Greater
+without_sign relation.GreaterEqualSigned = relation.GreaterEqual
+
 -- a jump to a step unless a test holds
 abbrev pub unless : Test → (target : ℕ) → List Step
 unless test.Odd t = Plain (i.TestByte (rm.Register Al) (masks.Immediate 1)) ∷ GotoIf conditions.Equal t ∷ []
@@ -373,6 +487,16 @@ unless (test.Constant o k) t = Plain (compares k) ∷ GotoIf (fails o) t ∷ []
 unless (test.Plain o widths.Byte x) t = on_place (loads_right widths.Byte) x ∷ Plain (clear_byte Ch) ∷ Plain (alu Cmp Ax Cx) ∷ GotoIf (fails o) t ∷ []
 unless (test.Plain o widths.Word x) t = on_place (operates Cmp) x ∷ GotoIf (fails o) t ∷ []
 unless (test.Top o) t = Plain (pop Cx) ∷ Plain (alu Cmp Cx Ax) ∷ GotoIf (fails o) t ∷ []
+unless (test.Low o x) t = low_compared x (GotoIf (fails (without_sign o)) t)
+
+-- After a step was added: the sum stays in the range of its width. INC leaves the carry as it was, and its sum is 0 where it does not.
+abbrev pub stays_in_range : (step : ℕ) → Condition
+stays_in_range k = if nat_eq k 1 then conditions.NotEqual else conditions.NotBelow
+
+-- a jump to a step if it does; a byte does not by a step above 255
+abbrev pub again : Width → (step target : ℕ) → List Step
+again widths.Byte k t = if nat_le 256 k then [] else GotoIf (stays_in_range k) t ∷ []
+again widths.Word k t = GotoIf (stays_in_range k) t ∷ []
 
 -- ---- registers that an interrupt procedure saves
 
@@ -408,16 +532,18 @@ module _ (first : ℕ → ℕ) (part : ℕ → ℕ) (saves : Registers) where
   row p (op.Load width x) = on_place (loads width None) x ∷ plain (narrow width)
   row p (op.LoadAt width x) = Plain (exchange Bx) ∷ on_place (loads width (Some bases.Bx)) x ∷ plain (narrow width)
   row p (op.LoadThere width) = Plain (exchange Bx) ∷ Plain (closed (loads width (Some bases.Bx) segments.Ds) 0) ∷ plain (narrow width)
+  row p (op.Low low high) = low_row low (cleared high)
   row p op.Push = Plain (push Ax) ∷ []
   row p (op.Pick n) = plain (picked n)
   row p (op.Drop n) = Plain (dropped n) ∷ []
   row p (op.Unary o width) = plain (changed o width)
-  row p (op.Binary o width) = plain (left_from_stack ++ core o width)
+  row p (op.Binary o width) = plain (from_stack (commutes o) ++ core o width)
   row p (op.BinaryConstant o width k) = plain (by_constant o width k)
   row p (op.BinaryPlain o width read x) = by_read o width read x
   row p (op.Store width x) = on_place (stores width None) x ∷ []
   row p (op.StoreAt width x) = Plain (exchange Bx) ∷ Plain (pop Ax) ∷ on_place (stores width (Some bases.Bx)) x ∷ []
   row p (op.StoreThere width) = Plain (exchange Bx) ∷ Plain (pop Ax) ∷ Plain (closed (stores width (Some bases.Bx) segments.Ds) 0) ∷ []
+  row p (op.StoreTop width x) = Plain (pop Cx) ∷ on_place (stores_right width) x ∷ []
   row p (op.Send width) = plain (exchange Dx ∷ pop Ax ∷ i.Out width ports.Dx ∷ [])
   row p (op.SendTo width port) = plain (sent width port)
   row p (op.Receive width) = plain (exchange Dx ∷ then_narrow width (i.In width ports.Dx))
@@ -426,6 +552,8 @@ module _ (first : ℕ → ℕ) (part : ℕ → ℕ) (saves : Registers) where
   row p (op.AheadUnless t n) = unless t (first (p + n))
   row p (op.Back n) = Goto (first (p - n)) ∷ []
   row p (op.BackUnless t n) = unless t (first (p - n))
+  -- MOV leaves the flags
+  row p (op.Next width x k n) = Plain (step_added width k) ∷ on_place (stores width None) x ∷ again width k (first (p - n))
   row p (op.Switch n) =
       Plain (alu_number Cmp Ax (n % 65536)) ∷ GotoIf conditions.NotBelow (first (p + n)) ∷ Plain (copy Bx Ax) ∷ Plain (i.ShiftWord shifts.Shl (rm.Register Bx) counts.One)
       ∷ AtStep (opens.JumpTo (spot (Some bases.Bx) segments.Cs)) (first p) ∷ []

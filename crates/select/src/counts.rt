@@ -1,11 +1,12 @@
 //! How many steps each instruction of the intermediate code has.
 
-ghost use Rattle.std.specs.Prelude.{◌≡◌, ◌≤◌, [], length};
+ghost use Rattle.std.specs.Prelude.{◌≡◌, ◌≤◌, ◌++◌, [], length};
 ghost use Rattle.i86_table.specs.declared.registers.Register16.TheVariants.{Ax};
-ghost use Rattle.select.specs.Rows.{plain, core, changed, narrow, narrow_sum, counted, exponent, by_product, by_quotient, by_remainder, by_constant, left_by, right_by, by_read, unless, received, sent, picked, with_register, registers_of, steps_in};
+ghost use Rattle.select.specs.Rows.{plain, commutes, from_stack, core, changed, narrow, narrow_sum, counted, exponent, by_product, by_quotient, by_remainder, by_constant, left_by, right_by, by_read, unless, again, received, sent, picked, with_register, registers_of, steps_in, cleared, by_right, low_received, low_row};
+ghost use Rattle.i86_table.specs.declared.instruction.AluOperation.{AluOperation};
 
-use crate::operators::exponent;
-use icode::{Instruction, Registers, Test, is_direct};
+use crate::operators::{commutes, exponent};
+use icode::{High, Instruction, LowByte, Registers, Right, Test, is_direct};
 use word86::{BinaryOperation, Place, UnaryOperation, Width};
 
 /// Of a value of this width in AX.
@@ -46,6 +47,17 @@ fn core_count(operation: BinaryOperation, width: Width) -> usize
         BinaryOperation::NotEqual | BinaryOperation::LessSigned | BinaryOperation::GreaterSigned =>
             5,
         BinaryOperation::LessEqualSigned | BinaryOperation::GreaterEqualSigned => 6,
+    }
+}
+
+/// Of an operator on the value on top and AX.
+fn binary_count(operation: BinaryOperation, width: Width) -> usize
+    ensures { result ≡ length (plain (from_stack (commutes operation) ++ core operation width)) }
+{
+    if commutes(operation) {
+        1 + core_count(operation, width)
+    } else {
+        2 + core_count(operation, width)
     }
 }
 
@@ -197,6 +209,53 @@ fn read_count(operation: BinaryOperation, width: Width, read: Width, place: Plac
     }
 }
 
+/// Of what becomes of the high byte.
+fn cleared_count(high: High) -> usize
+    ensures value { result ≡ length (plain (cleared high)) }
+    ensures few { result ≤ 1 }
+{
+    match high {
+        High::Kept => 0,
+        High::Cleared => 1,
+    }
+}
+
+/// Of an operator on low bytes.
+fn operand_count(right: Right, high: High) -> usize
+    ensures value { (operation : AluOperation) → result ≡ length (by_right operation right (cleared high)) }
+    ensures few { result ≤ 4 }
+{
+    match right {
+        Right::Constant(_) | Right::Plain(_) => 1 + cleared_count(high),
+        Right::Top => 3 + cleared_count(high),
+    }
+}
+
+/// Of a low byte that is read from a port.
+fn low_received_count(port: u16, high: High) -> usize
+    ensures value { result ≡ length (plain (low_received port (cleared high))) }
+    ensures few { result ≤ 3 }
+{
+    if port >= 256 {
+        2 + cleared_count(high)
+    } else {
+        1 + cleared_count(high)
+    }
+}
+
+/// Of what the low byte gets.
+fn low_count(low: LowByte, high: High) -> usize
+    ensures value { result ≡ length (low_row low (cleared high)) }
+    ensures few { result ≤ 4 }
+{
+    match low {
+        LowByte::Constant(_) | LowByte::Load(_) | LowByte::High => 1 + cleared_count(high),
+        LowByte::LoadAt(_) | LowByte::LoadThere | LowByte::Receive => 2 + cleared_count(high),
+        LowByte::ReceiveFrom(port) => low_received_count(port, high),
+        LowByte::Operate(_, right) => operand_count(right, high),
+    }
+}
+
 /// Of a jump unless a test holds.
 fn unless_count(test: Test) -> usize
     ensures value { result ≡ length (unless test 0) }
@@ -205,7 +264,19 @@ fn unless_count(test: Test) -> usize
     match test {
         Test::Odd | Test::Constant(_, _) | Test::Plain(_, Width::Word, _) => 2,
         Test::Plain(_, Width::Byte, _) => 4,
-        Test::Top(_) => 3,
+        Test::Low(_, Right::Constant(_)) | Test::Low(_, Right::Plain(_)) => 2,
+        Test::Top(_) | Test::Low(_, Right::Top) => 3,
+    }
+}
+
+/// Of a jump if a sum stays in the range of its width.
+fn again_count(width: Width, number: u16) -> usize
+    ensures value { result ≡ length (again width number 0) }
+    ensures few { result ≤ 1 }
+{
+    match width {
+        Width::Byte => if number >= 256 { 0 } else { 1 },
+        Width::Word => 1,
     }
 }
 
@@ -274,16 +345,17 @@ pub(crate) fn steps_of(saves: Registers, instruction: Instruction) -> usize
         | Instruction::Invoke(_)
         | Instruction::Leave
         | Instruction::Disable => 1,
-        Instruction::Enable | Instruction::Halt => 2,
+        Instruction::StoreTop(_, _) | Instruction::Enable | Instruction::Halt => 2,
         Instruction::StoreAt(_, _) | Instruction::StoreThere(_) | Instruction::Send(_) => 3,
         Instruction::Switch(_) => 5,
+        Instruction::Low(low, high) => low_count(low, high),
         Instruction::Load(width, _) => 1 + narrow_count(width),
         Instruction::LoadAt(width, _)
         | Instruction::LoadThere(width)
         | Instruction::Receive(width) => 2 + narrow_count(width),
         Instruction::Pick(above) => picked_count(above),
         Instruction::Unary(operation, width) => changed_count(operation, width),
-        Instruction::Binary(operation, width) => 2 + core_count(operation, width),
+        Instruction::Binary(operation, width) => binary_count(operation, width),
         Instruction::BinaryConstant(operation, width, number) => {
             constant_count(operation, width, number)
         }
@@ -293,6 +365,7 @@ pub(crate) fn steps_of(saves: Registers, instruction: Instruction) -> usize
         Instruction::SendTo(width, port) => sent_count(width, port),
         Instruction::ReceiveFrom(width, port) => received_count(width, port),
         Instruction::AheadUnless(test, _) | Instruction::BackUnless(test, _) => unless_count(test),
+        Instruction::Next(width, _, number, _) => 2 + again_count(width, number),
         Instruction::Finish => saved_count(saves) + 1,
     }
 }

@@ -5,6 +5,7 @@ mod assembly;
 mod counts;
 mod drafts;
 mod laws;
+mod low_bytes;
 mod operators;
 mod part;
 mod put;

@@ -1,10 +1,10 @@
 //! The instructions of operators.
 
 ghost use Rattle.std.specs.Prelude.{◌≡◌, ◌++◌, IsOkUnless, OnOk};
-ghost use Rattle.select.specs.Rows.{plain, sign_turned, core, changed, narrow, narrow_right, then_narrow, spread, inverted, shift_word, shift_byte, left_by, right_by, turned_round, direct, narrow_sum, sum_number, sum_with, load_count, counted, exponent, by_number, by_product, by_quotient, by_remainder, by_turned, by_constant};
+ghost use Rattle.select.specs.Rows.{plain, commutes, from_stack, sign_turned, core, changed, narrow, narrow_right, then_narrow, spread, inverted, shift_word, shift_byte, left_by, right_by, turned_round, direct, narrow_sum, sum_number, sum_with, increment, step_added, load_count, counted, exponent, by_number, by_product, by_quotient, by_remainder, by_turned, by_constant};
 
 use crate::part::Step;
-use crate::put::{add, all, alu, alu_number, clear_byte, exchange, load_number};
+use crate::put::{add, all, alu, alu_number, clear_byte, exchange, load_number, pop};
 use i86_table::{
     AluOperation, Count, Instr, Operands, Register8, Register16, RmOperand, ShiftOperation,
     Signedness, UnaryOperation,
@@ -14,6 +14,38 @@ use word86::{BinaryOperation, Fault, Width, add16};
 const AX: Register16 = Register16::Ax;
 
 const CX: Register16 = Register16::Cx;
+
+/// Whether an operator's operands may change places.
+pub(crate) fn commutes(operation: BinaryOperation) -> bool
+    ensures { result ≡ commutes operation }
+{
+    match operation {
+        BinaryOperation::Multiply
+        | BinaryOperation::Add
+        | BinaryOperation::And
+        | BinaryOperation::Or
+        | BinaryOperation::ExclusiveOr => true,
+        BinaryOperation::Divide
+        | BinaryOperation::Modulo
+        | BinaryOperation::Subtract
+        | BinaryOperation::Equal
+        | BinaryOperation::NotEqual
+        | BinaryOperation::Less
+        | BinaryOperation::LessEqual
+        | BinaryOperation::Greater
+        | BinaryOperation::GreaterEqual
+        | BinaryOperation::ShiftLeft
+        | BinaryOperation::ShiftRight
+        | BinaryOperation::RotateLeft
+        | BinaryOperation::RotateRight
+        | BinaryOperation::DivideSigned
+        | BinaryOperation::ModuloSigned
+        | BinaryOperation::LessSigned
+        | BinaryOperation::LessEqualSigned
+        | BinaryOperation::GreaterSigned
+        | BinaryOperation::GreaterEqualSigned => false,
+    }
+}
 
 /// A value of this width in AX.
 pub(crate) fn narrow(steps: &mut Vec<Step>, width: Width) -> Result<(), Fault>
@@ -168,6 +200,24 @@ pub(crate) fn core(
     }
 }
 
+/// An operator on the value on top, which goes, and AX.
+pub(crate) fn binary(
+    steps: &mut Vec<Step>,
+    operation: BinaryOperation,
+    width: Width,
+) -> Result<(), Fault>
+    ensures steps { OnOk result (steps.new.items ≡ steps.old.items ++ plain (from_stack (commutes operation) ++ core operation width)) }
+    ensures memory { IsOkUnless result Fault.Memory }
+{
+    if commutes(operation) {
+        all(steps, &[pop(CX)])?;
+        core(steps, operation, width)
+    } else {
+        all(steps, &[exchange(CX), pop(AX)])?;
+        core(steps, operation, width)
+    }
+}
+
 /// An operator on AX.
 pub(crate) fn changed(
     steps: &mut Vec<Step>,
@@ -288,6 +338,27 @@ fn sum_with(one: UnaryOperation, operation: AluOperation, width: Width, number: 
         Instr::UnaryWord(one, RmOperand::Register(AX))
     } else {
         sum_number(operation, width, number)
+    }
+}
+
+/// One added to AL or AX.
+fn increment(width: Width) -> Instr
+    ensures { result ≡ increment width }
+{
+    match width {
+        Width::Byte => Instr::UnaryByte(UnaryOperation::Inc, RmOperand::Register(Register8::Al)),
+        Width::Word => Instr::UnaryWord(UnaryOperation::Inc, RmOperand::Register(AX)),
+    }
+}
+
+/// A step added to AL or AX, whose flags are asked afterwards.
+pub(crate) fn step_added(width: Width, number: u16) -> Instr
+    ensures { result ≡ step_added width number }
+{
+    if number == 1 {
+        increment(width)
+    } else {
+        sum_number(AluOperation::Add, width, number)
     }
 }
 

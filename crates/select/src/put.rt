@@ -2,7 +2,7 @@
 
 ghost use Rattle.std.specs.Prelude.{◌≡◌, ◌*◌, ◌%◌, ◌++◌, ◌∷◌, [], IsOkUnless, OnOk};
 ghost use Rattle.select.specs.declared.part.Step.TheVariants.{Plain};
-ghost use Rattle.select.specs.Rows.{plain, load_number, copy, exchange, clear_byte, alu, alu_number, accumulator_gets, compares, push, pop, spot, access, placed, own_word};
+ghost use Rattle.select.specs.Rows.{plain, load_number, copy, exchange, clear_byte, alu, alu_number, accumulator_gets, compares, push, pop, spot, access, placed, on_place, loads, own_word};
 
 use crate::part::{Kind, Step};
 use i86_table::{
@@ -164,6 +164,16 @@ pub(crate) fn placed(place: &Place, ram: Open, screen: Open) -> Step
             Step::Plain(screen.closed(page.begins().wrapping_add(*index)))
         }
     }
+}
+
+/// AL or AX gets what lies at a place, or as far after it as the base says.
+pub(crate) fn load(width: Width, base: Option<Base>, place: &Place) -> Step
+    ensures { result ≡ on_place (loads width base) place.now }
+{
+    let (al, ax) = (Register8::Al, Register16::Ax);
+    let ram = access(Use::Load, al, ax, width, spot(base, Segment::Ds));
+    let screen = access(Use::Load, al, ax, width, spot(base, Segment::Es));
+    placed(place, ram, screen)
 }
 
 /// The context's own word that `above` others lie on, where BP is the stack pointer.

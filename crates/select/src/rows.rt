@@ -3,17 +3,19 @@
 ghost use Rattle.std.specs.Prelude.{◌≡◌, ◌+◌, ◌++◌, ◌∷◌, [], IsOkUnless, OnOk, slice_index};
 ghost use Rattle.icode.specs.Registers.{none};
 ghost use Rattle.icode.specs.declared.instruction.Instruction.TheVariants.{Switch};
-ghost use Rattle.select.specs.declared.part.Step.TheVariants.{Goto};
+ghost use Rattle.select.specs.declared.part.Step.TheVariants.{Plain, Goto};
 ghost use Rattle.select.specs.Inner.Numbering.{step_at};
-ghost use Rattle.select.specs.Rows.{plain, finished, narrow, operates, row, picked, dropped, sent, received, by_read, fails, unless, with_register, given_back, registers_of, on_place, loads, loads_right, stores};
+ghost use Rattle.select.specs.Rows.{stores_right, plain, finished, narrow, operates, row, picked, dropped, sent, received, by_read, fails, unless, step_added, stays_in_range, again, with_register, given_back, registers_of, on_place, loads, loads_right, stores, without_sign};
 
+use crate::low_bytes::{low_compared, low_row};
 use crate::operators::{
-    by_constant, changed, core, direct, narrow, narrow_right, narrow_sum, then_narrow,
+    binary, by_constant, changed, core, direct, narrow, narrow_right, narrow_sum, step_added,
+    then_narrow,
 };
 use crate::part::{Kind, Step};
 use crate::put::{
     access, accumulator_gets, add, all, alu, alu_number, clear_byte, compares, copy, exchange,
-    load_number, own_word, placed, pop, push, put, spot, twice,
+    load, load_number, own_word, placed, pop, push, put, spot, twice,
 };
 use i86_table::{
     AluOperation, Base, Condition, Count, Instr, Open, Operands, Port, Register8, Register16,
@@ -34,21 +36,33 @@ const BP: Register16 = Register16::Bp;
 
 const SP: Register16 = Register16::Sp;
 
-/// AL or AX gets what lies at a place, or as far after it as the base says.
-fn load(width: Width, base: Option<Base>, place: &Place) -> Step
-    ensures { result ≡ on_place (loads width base) place.now }
-{
-    let ram = access(Use::Load, Register8::Al, AX, width, spot(base, Segment::Ds));
-    let screen = access(Use::Load, Register8::Al, AX, width, spot(base, Segment::Es));
-    placed(place, ram, screen)
-}
-
 /// CL or CX gets what lies at a place.
 fn load_right(width: Width, place: &Place) -> Step
     ensures { result ≡ on_place (loads_right width) place.now }
 {
     let ram = access(Use::Load, Register8::Cl, CX, width, spot(None, Segment::Ds));
     let screen = access(Use::Load, Register8::Cl, CX, width, spot(None, Segment::Es));
+    placed(place, ram, screen)
+}
+
+/// CL or CX is written at a place.
+fn store_right(width: Width, place: &Place) -> Step
+    ensures { result ≡ on_place (stores_right width) place.now }
+{
+    let ram = access(
+        Use::Store,
+        Register8::Cl,
+        CX,
+        width,
+        spot(None, Segment::Ds),
+    );
+    let screen = access(
+        Use::Store,
+        Register8::Cl,
+        CX,
+        width,
+        spot(None, Segment::Es),
+    );
     placed(place, ram, screen)
 }
 
@@ -167,6 +181,20 @@ fn fails(relation: Relation) -> Condition
     }
 }
 
+/// The relation that bytes, which have no sign, stand in.
+fn without_sign(relation: Relation) -> Relation
+    ensures { result ≡ without_sign relation }
+{
+    match relation {
+        Relation::Equal => Relation::Equal,
+        Relation::NotEqual => Relation::NotEqual,
+        Relation::Less | Relation::LessSigned => Relation::Less,
+        Relation::LessEqual | Relation::LessEqualSigned => Relation::LessEqual,
+        Relation::Greater | Relation::GreaterSigned => Relation::Greater,
+        Relation::GreaterEqual | Relation::GreaterEqualSigned => Relation::GreaterEqual,
+    }
+}
+
 /// A jump to a step unless a test holds.
 fn unless(steps: &mut Vec<Step>, test: &Test, target: usize) -> Result<(), Fault>
     ensures steps { OnOk result (steps.new.items ≡ steps.old.items ++ unless test.now target) }
@@ -198,8 +226,57 @@ fn unless(steps: &mut Vec<Step>, test: &Test, target: usize) -> Result<(), Fault
             all(steps, &[pop(CX), alu(AluOperation::Cmp, CX, AX)])?;
             fails(*relation)
         }
+        Test::Low(relation, right) => {
+            let condition = fails(without_sign(*relation));
+            return low_compared(steps, right, Step::GotoIf { condition, target });
+        }
     };
     put(steps, Step::GotoIf { condition, target })
+}
+
+/// The condition after a step was added where the sum stays in the range of its width: INC leaves the carry.
+fn stays_in_range(number: u16) -> Condition
+    ensures { result ≡ stays_in_range number }
+{
+    if number == 1 {
+        Condition::NotEqual
+    } else {
+        Condition::NotBelow
+    }
+}
+
+/// A jump to a step if it does; a byte does not by a step above 255.
+fn again(steps: &mut Vec<Step>, width: Width, number: u16, target: usize) -> Result<(), Fault>
+    ensures steps { OnOk result (steps.new.items ≡ steps.old.items ++ again width number target) }
+    ensures memory { IsOkUnless result Fault.Memory }
+{
+    let condition = stays_in_range(number);
+    match width {
+        Width::Byte => {
+            if number >= 256 {
+                Ok(())
+            } else {
+                put(steps, Step::GotoIf { condition, target })
+            }
+        }
+        Width::Word => put(steps, Step::GotoIf { condition, target }),
+    }
+}
+
+/// The end of a round: a step is added, the sum is stored, and a next round begins at the target.
+fn round_end(
+    steps: &mut Vec<Step>,
+    width: Width,
+    place: &Place,
+    number: u16,
+    target: usize,
+) -> Result<(), Fault>
+    ensures steps { OnOk result (steps.new.items ≡ steps.old.items ++ Plain (step_added width number) ∷ on_place (stores width None) place.now ∷ again width number target) }
+    ensures memory { IsOkUnless result Fault.Memory }
+{
+    add(steps, step_added(width, number))?;
+    put(steps, store(width, None, place))?;
+    again(steps, width, number, target)
 }
 
 /// The number of the step at which the row of an index begins.
@@ -338,14 +415,12 @@ pub(crate) fn row(
             all(steps, &[exchange(BX), load.closed(0)])?;
             narrow(steps, *width)
         }
+        Instruction::Low(low, high) => low_row(steps, low, *high),
         Instruction::Push => add(steps, push(AX)),
         Instruction::Pick(above) => picked(steps, *above),
         Instruction::Drop(count) => add(steps, dropped(*count)),
         Instruction::Unary(operation, width) => changed(steps, *operation, *width),
-        Instruction::Binary(operation, width) => {
-            all(steps, &[exchange(CX), pop(AX)])?;
-            core(steps, *operation, *width)
-        }
+        Instruction::Binary(operation, width) => binary(steps, *operation, *width),
         Instruction::BinaryConstant(operation, width, number) => {
             by_constant(steps, *operation, *width, *number)
         }
@@ -361,6 +436,10 @@ pub(crate) fn row(
             let there = spot(Some(Base::Bx), Segment::Ds);
             let store = access(Use::Store, Register8::Al, AX, *width, there);
             all(steps, &[exchange(BX), pop(AX), store.closed(0)])
+        }
+        Instruction::StoreTop(width, place) => {
+            add(steps, pop(CX))?;
+            put(steps, store_right(*width, place))
         }
         Instruction::Send(width) => {
             all(
@@ -379,6 +458,10 @@ pub(crate) fn row(
         Instruction::Back(count) => jump(steps, step_at(firsts, next.saturating_sub(*count))),
         Instruction::BackUnless(test, count) => {
             unless(steps, test, step_at(firsts, next.saturating_sub(*count)))
+        }
+        Instruction::Next(width, place, number, count) => {
+            let target = step_at(firsts, next.saturating_sub(*count));
+            round_end(steps, *width, place, *number, target)
         }
         Instruction::Switch(count) => switch(steps, firsts, next, *count),
         Instruction::Case(count) => {

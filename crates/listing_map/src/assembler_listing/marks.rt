@@ -150,12 +150,13 @@ pub(crate) fn sort_of(instruction: Instruction) -> Sort {
         Instruction::Store(_, _)
         | Instruction::StoreAt(_, _)
         | Instruction::StoreThere(_)
+        | Instruction::StoreTop(_, _)
         | Instruction::Send(_)
         | Instruction::SendTo(_, _) => Sort::Store,
         Instruction::Invoke(_) => Sort::Call,
         Instruction::Leave | Instruction::Finish => Sort::Leave,
         Instruction::AheadUnless(_, _) => Sort::Asks,
-        Instruction::BackUnless(_, _) => Sort::AsksBack,
+        Instruction::BackUnless(_, _) | Instruction::Next(_, _, _, _) => Sort::AsksBack,
         Instruction::Switch(_) => Sort::Cases,
         Instruction::Case(_) => Sort::Case,
         Instruction::Constant(_)
@@ -164,6 +165,7 @@ pub(crate) fn sort_of(instruction: Instruction) -> Sort {
         | Instruction::Load(_, _)
         | Instruction::LoadAt(_, _)
         | Instruction::LoadThere(_)
+        | Instruction::Low(_, _)
         | Instruction::Push
         | Instruction::Pick(_)
         | Instruction::Drop(_)
@@ -181,10 +183,11 @@ pub(crate) fn sort_of(instruction: Instruction) -> Sort {
     }
 }
 
-/// How far the instructions of a routine are gone through, and the marks so far.
+/// How far the instructions of a routine are gone through, whether each DO WHILE that is still to come has no test, and the marks so far.
 #[derive(Drop)]
 struct Walk<'c> {
     instructions: &'c [Instruction],
+    endless: &'c [bool],
     at: usize,
     marks: Vec<Mark>,
 }
@@ -213,6 +216,17 @@ impl Walk<'_> {
     /// Goes on behind the next instruction of a sort, so many times.
     fn behind(&mut self, sort: Sort, times: usize) {
         self.at = place_behind(self.instructions, self.at, sort, times);
+    }
+
+    /// Whether the next DO WHILE has no test, since its condition always holds.
+    fn is_next_endless(&mut self) -> bool {
+        match self.endless {
+            [first, others @ ..] => {
+                self.endless = others;
+                *first
+            }
+            [] => false,
+        }
     }
 
     /// Goes on over the jump that stands before what is done otherwise, if that has code.
@@ -296,17 +310,28 @@ fn walk_cases(trees: &[Statement], walk: &mut Walk<'_>) -> Result<(), AllocError
     Ok(())
 }
 
-/// The statements of a loop, and what ends its rounds.
+/// DO WHILE: its test, if there is one, its statements, and the jump back.
 #[cycle(walking)]
-fn walk_loop(
+fn walk_while(trees: &[Statement], place: Position, walk: &mut Walk<'_>) -> Result<(), AllocError> {
+    if walk.is_next_endless() {
+        walk.mark(place)?;
+    } else {
+        walk.mark_behind(place, Sort::Asks, 1)?;
+    }
+    walk_statements(trees, walk)?;
+    walk.mark_behind(place, Sort::Other, 1)
+}
+
+/// DO with an index: what comes before its rounds, its statements, and what ends a round.
+#[cycle(walking)]
+fn walk_iterate(
     trees: &[Statement],
     place: Position,
-    end: Sort,
     walk: &mut Walk<'_>,
 ) -> Result<(), AllocError> {
     walk.mark_behind(place, Sort::Asks, 1)?;
     walk_statements(trees, walk)?;
-    walk.mark_behind(place, end, 1)
+    walk.mark_behind(place, Sort::AsksBack, 1)
 }
 
 #[cycle(walking)]
@@ -337,34 +362,33 @@ fn walk_statement(tree: &Statement, walk: &mut Walk<'_>) -> Result<(), AllocErro
             walk_statement(otherwise, walk)
         }
         Statement::Do(_, statements) => walk_statements(statements, walk),
-        Statement::While(place, _, statements) => {
-            walk_loop(statements, *place, Sort::Other, walk)
-        }
+        Statement::While(place, _, statements) => walk_while(statements, *place, walk),
         Statement::Case(place, _, statements) => {
             walk.mark_behind(*place, Sort::Cases, 1)?;
             walk.over(statements.len().saturating_add(1));
             walk_cases(statements, walk)
         }
-        Statement::Iterate(place, _, _, statements) => {
-            walk_loop(statements, *place, Sort::AsksBack, walk)
-        }
+        Statement::Iterate(place, _, _, statements) => walk_iterate(statements, *place, walk),
     }
 }
 
-/// Where the statements of a routine begin in its code, and at last where they end.
+/// Where the statements of a routine begin in its code, and at last where they end. `endless` says of each DO WHILE whether it has no test.
 pub(crate) fn marks_of(
     trees: &[Statement],
+    endless: &[bool],
     instructions: &[Instruction],
     marks: Vec<Mark>,
 ) -> Result<Vec<Mark>, AllocError> {
     let mut walk = Walk {
         instructions,
+        endless,
         at: 0,
         marks,
     };
     walk_statements(trees, &mut walk)?;
     let Walk {
         instructions: _,
+        endless: _,
         at,
         mut marks,
     } = walk;

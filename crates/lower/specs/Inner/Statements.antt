@@ -2,7 +2,7 @@
 use Rattle.std.specs.Prelude.{ℕ, ◌+◌, Bool, List, length}
 use Rattle.plm_type.specs.Rest.{Expression, Statements, Procedure}
 use Rattle.icode.specs.declared.instruction.Instruction.{Instruction}
-use Rattle.lower.specs.Expressions.{condition_code, test_of}
+use Rattle.lower.specs.Conditions.{condition_code, test_of}
 use Rattle.lower.specs.Statements.{Kind, over, choosing, statements_code}
 
 abbrev pub branching : List Procedure → Kind → (condition : Expression) (arm : Statements) (silent : Bool) (otherwise : List Instruction) (exit : ℕ) → List Instruction
