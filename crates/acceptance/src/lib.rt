@@ -19,6 +19,8 @@ mod expect;
 #[cfg(test)]
 mod flags;
 #[cfg(test)]
+mod in_place;
+#[cfg(test)]
 mod integers;
 #[cfg(test)]
 mod interrupt_controller;

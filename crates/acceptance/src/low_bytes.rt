@@ -34,7 +34,11 @@ fn body_is(code: &Code, wanted: &[Instruction]) -> bool {
 }
 
 /// Whether a statement with the BYTEs A, B, C and the WORD W has these instructions.
-fn is_lowered(alloc: Global, text: &[u8], wanted: &[Instruction]) -> Result<bool, Fault> {
+pub(crate) fn is_lowered(
+    alloc: Global,
+    text: &[u8],
+    wanted: &[Instruction],
+) -> Result<bool, Fault> {
     then(code_of(alloc, &[text]), |code| Ok(body_is(code, wanted)))
 }
 
@@ -108,7 +112,7 @@ fn targets_of_bytes(rt: HostRuntime) -> Result<(), Fail> {
 }
 
 /// The bytes of main's part but for its last four, which halt again and again. Offsets of objects are 0 until parts are placed.
-fn bytes_are(alloc: Global, code: &Code, wanted: &[u8]) -> Result<bool, Fault> {
+pub(crate) fn bytes_are(alloc: Global, code: &Code, wanted: &[u8]) -> Result<bool, Fault> {
     let parts = section_of(alloc, code, 0)?;
     let end = [0xFB, 0xF4, 0xEB, 0xFC];
     Ok(match parts.first() {

@@ -57,11 +57,11 @@ fn sections_are_in_order(rt: HostRuntime) -> Result<(), Fail> {
 
 /// Loops whose body is empty, and main's bytes, which halt behind the loop. An index has offset 0 before the parts are placed.
 const ROUNDS: &[(&[u8], &[u8])] = &[
-    // MOV AL,1; MOV [I],AL. A round: MOV AL,[I]; CMP AL,3; JA. Its end: MOV AL,[I]; INC AL; MOV [I],AL; JNZ.
+    // MOV AL,1; MOV [I],AL. A round: CMP BYTE [I],3; JA. Its end: MOV AL,[I]; INC AL; MOV [I],AL; JNZ.
     (
         b"M: DO; DECLARE I BYTE; DO I = 1 TO 3; END; END M;",
         &[
-            0xB0, 1, 0xA2, 0, 0, 0xA0, 0, 0, 0x3C, 3, 0x77, 10, 0xA0, 0, 0, 0xFE, 0xC0, 0xA2, 0, 0,
+            0xB0, 1, 0xA2, 0, 0, 0x80, 0x3E, 0, 0, 3, 0x77, 10, 0xA0, 0, 0, 0xFE, 0xC0, 0xA2, 0, 0,
             0x75, 0xEF, 0xFB, 0xF4, 0xEB, 0xFC,
         ],
     ),
@@ -69,7 +69,7 @@ const ROUNDS: &[(&[u8], &[u8])] = &[
     (
         b"M: DO; DECLARE I BYTE; DO I = 1 TO 3 BY 2; END; END M;",
         &[
-            0xB0, 1, 0xA2, 0, 0, 0xA0, 0, 0, 0x3C, 3, 0x77, 10, 0xA0, 0, 0, 4, 2, 0xA2, 0, 0, 0x73,
+            0xB0, 1, 0xA2, 0, 0, 0x80, 0x3E, 0, 0, 3, 0x77, 10, 0xA0, 0, 0, 4, 2, 0xA2, 0, 0, 0x73,
             0xEF, 0xFB, 0xF4, 0xEB, 0xFC,
         ],
     ),
@@ -77,24 +77,24 @@ const ROUNDS: &[(&[u8], &[u8])] = &[
     (
         b"M: DO; DECLARE I BYTE; DO I = 1 TO 3 BY 300; END; END M;",
         &[
-            0xB0, 1, 0xA2, 0, 0, 0xA0, 0, 0, 0x3C, 3, 0x77, 8, 0xA0, 0, 0, 4, 44, 0xA2, 0, 0, 0xFB,
+            0xB0, 1, 0xA2, 0, 0, 0x80, 0x3E, 0, 0, 3, 0x77, 8, 0xA0, 0, 0, 4, 44, 0xA2, 0, 0, 0xFB,
             0xF4, 0xEB, 0xFC,
         ],
     ),
-    // MOV AX,[I]; INC AX; MOV [I],AX; JNZ.
+    // CMP WORD [I],3 with a byte for the 3; MOV AX,[I]; INC AX; MOV [I],AX; JNZ.
     (
         b"M: DO; DECLARE I WORD; DO I = 1 TO 3; END; END M;",
         &[
-            0xB8, 1, 0, 0xA3, 0, 0, 0xA1, 0, 0, 0x3D, 3, 0, 0x77, 9, 0xA1, 0, 0, 0x40, 0xA3, 0, 0,
-            0x75, 0xEF, 0xFB, 0xF4, 0xEB, 0xFC,
+            0xB8, 1, 0, 0xA3, 0, 0, 0x83, 0x3E, 0, 0, 3, 0x77, 9, 0xA1, 0, 0, 0x40, 0xA3, 0, 0,
+            0x75, 0xF0, 0xFB, 0xF4, 0xEB, 0xFC,
         ],
     ),
     // MOV AX,[I]; ADD AX,300; MOV [I],AX; JNC.
     (
         b"M: DO; DECLARE I WORD; DO I = 1 TO 3 BY 300; END; END M;",
         &[
-            0xB8, 1, 0, 0xA3, 0, 0, 0xA1, 0, 0, 0x3D, 3, 0, 0x77, 11, 0xA1, 0, 0, 5, 44, 1, 0xA3,
-            0, 0, 0x73, 0xED, 0xFB, 0xF4, 0xEB, 0xFC,
+            0xB8, 1, 0, 0xA3, 0, 0, 0x83, 0x3E, 0, 0, 3, 0x77, 11, 0xA1, 0, 0, 5, 44, 1, 0xA3, 0,
+            0, 0x73, 0xEE, 0xFB, 0xF4, 0xEB, 0xFC,
         ],
     ),
 ];

@@ -20,7 +20,7 @@ use Rattle.icode.specs.declared.code.Routine.TheVariants.{Nowhere}
 use Rattle.icode.specs.declared.code.Position.{Position}
 use Rattle.icode.specs.declared.code.Word.{Word}
 use Rattle.icode.specs.declared.code.Word.TheVariants.{Value, Return}
-use Rattle.icode.specs.Machine.{Context, At, is_odd, stands, address, found, operated, computed, value_in, with_value, loaded, stored, with_low, switched, jumped, run, run_at, does, settled, of_bytes}
+use Rattle.icode.specs.Machine.{Context, At, is_odd, stands, address, found, operated, computed, value_in, with_value, loaded, stored, with_low, switched, jumped, run_at, does, settled, of_bytes}
 use Rattle.icode.specs.Heights.{popped, after, behind, height, HasHeights}
 use Rattle.icode.specs.Counted.{IsPath, words_along, IsDepth}
 use Rattle.icode.specs.Runs.{Leads, Comes}
@@ -159,6 +159,14 @@ module _ (offsets sizes : List ℕ) (code : Routine → List Instruction) (has_h
   jumps (test.Low o rights.Top) r p q a k ps (Value v ∷ ws) path e ep eq h =
       let h' : Shape 0 ps ws = subst (λ n. Shape n ps ws) e (taken k ps v ws h) in
       either (stands o (v % 256) (a % 256)) r p q a ws (to r p a 0 ps ws path ep h') (to r q a 0 ps ws path eq h')
+  jumps (test.Named o read x n) r p q a k ps ws path e ep eq h =
+      let h' : Shape 0 ps ws = (let e' : k ≡ 0 = omega (arith, e) in subst (λ n. Shape n ps ws) e' h) in
+      loads read (found offsets sizes read x (address offsets sizes x 0)) (λ v. At r (if stands o v (low read n) then p else q) a ws)
+      (λ v. either (stands o v (low read n)) r p q a ws (to r p a 0 ps ws path ep h') (to r q a 0 ps ws path eq h'))
+  jumps (test.OddNamed x) r p q a k ps ws path e ep eq h =
+      let h' : Shape 0 ps ws = (let e' : k ≡ 0 = omega (arith, e) in subst (λ n. Shape n ps ws) e' h) in
+      loads widths.Byte (found offsets sizes widths.Byte x (address offsets sizes x 0)) (λ v. At r (if is_odd v then p else q) a ws)
+      (λ v. either (is_odd v) r p q a ws (to r p a 0 ps ws path ep h') (to r q a 0 ps ws path eq h'))
   jumps (test.Top o) r p q a k ps [] path e ep eq h = tt
   jumps (test.Top o) r p q a k ps (Return w ∷ ws) path e ep eq h = tt
   jumps (test.Top o) r p q a k ps (Value v ∷ ws) path e ep eq h =
@@ -235,6 +243,7 @@ module _ (offsets sizes : List ℕ) (code : Routine → List Instruction) (has_h
   step (Some (op.StoreTop width x)) r p a ps (Return q ∷ ws) e path h = tt
   step (Some (op.StoreTop width x)) r p a ps (Value v ∷ ws) e path h =
       stores width (found offsets sizes width x (address offsets sizes x 0)) v (At r (p + 1) a ws) (to r (p + 1) a _ ps ws path (next_height p (code r) (op.StoreTop width x) e) (taken (height (code r) p) ps v ws h))
+  step (Some (op.StoreConstantAt width x k)) r p a ps ws e path h = stores width (found offsets sizes width x (address offsets sizes x a)) k (At r (p + 1) k ws) (to r (p + 1) k _ ps ws path (next_height p (code r) (op.StoreConstantAt width x k) e) h)
   step (Some (op.Send width)) r p a ps [] e path h = tt
   step (Some (op.Send width)) r p a ps (Return q ∷ ws) e path h = tt
   step (Some (op.Send width)) r p a ps (Value v ∷ ws) e path h = λ _. to r (p + 1) v _ ps ws path (next_height p (code r) (op.Send width) e) (taken (height (code r) p) ps v ws h)

@@ -144,6 +144,7 @@ fn called(instruction: Instruction) -> Option<usize>
         | Instruction::StoreAt(_, _)
         | Instruction::StoreThere(_)
         | Instruction::StoreTop(_, _)
+        | Instruction::StoreConstantAt(_, _, _)
         | Instruction::Send(_)
         | Instruction::SendTo(_, _)
         | Instruction::Receive(_)
@@ -171,6 +172,7 @@ fn popped(test: Test) -> usize
         Test::Top(_) | Test::Low(_, Right::Top) => 1,
         Test::Low(_, Right::Constant(_)) | Test::Low(_, Right::Plain(_)) => 0,
         Test::Odd | Test::Constant(_, _) | Test::Plain(_, _, _) => 0,
+        Test::Named(_, _, _, _) | Test::OddNamed(_) => 0,
     }
 }
 
@@ -228,6 +230,7 @@ pub fn height_after(instruction: Instruction, height: usize) -> usize
         | Instruction::BinaryConstant(_, _, _)
         | Instruction::BinaryPlain(_, _, _, _)
         | Instruction::Store(_, _)
+        | Instruction::StoreConstantAt(_, _, _)
         | Instruction::SendTo(_, _)
         | Instruction::Receive(_)
         | Instruction::ReceiveFrom(_, _)

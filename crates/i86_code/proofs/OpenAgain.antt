@@ -1,17 +1,19 @@
--- The bytes of an instruction that ends in a word, whatever number stands there.
-use Rattle.std.proofs.Common.{◌≡◌, ℕ, ◌<◌, ◌^◌, Bool, true, false, List, [], ◌∷◌, ◌++◌, Option, Some, None, refl, sym, ap, ◌∙◌, arith, append_assoc}
+-- The bytes of an instruction with a word, whatever number stands there.
+use Rattle.std.proofs.Common.{◌≡◌, ℕ, ◌%◌, ◌<◌, ◌^◌, Bool, true, false, List, [], ◌∷◌, ◌++◌, Option, Some, None, refl, sym, ap, ◌∙◌, subst, arith, inl, inr, append_assoc, append-nil}
 use Rattle.word86.specs.declared.width.Width.TheVariants as widths
 use Rattle.i86_table.specs.declared.registers.Segment.{Segment}
 use Rattle.i86_table.specs.declared.registers.Segment.TheVariants as segments
 use Rattle.i86_table.specs.declared.registers.Register8.{Register8}
 use Rattle.i86_table.specs.declared.registers.Register16.{Register16}
+use Rattle.i86_table.specs.declared.instruction.AluOperation.TheVariants.{Cmp}
 use Rattle.i86_table.specs.declared.instruction.Base.{Base}
 use Rattle.i86_table.specs.declared.instruction.Address.{Address}
 use Rattle.i86_table.specs.declared.instruction.Address.TheVariants as addresses
 use Rattle.i86_table.specs.declared.instruction.Memory.{Memory}
 use Rattle.i86_table.specs.declared.instruction.RmOperand.{RmOperand}
 use Rattle.i86_table.specs.declared.instruction.RmOperand.TheVariants as rm
-use Rattle.i86_table.specs.declared.instruction.Operands.TheVariants.{FromRegister, FromMemory}
+use Rattle.i86_table.specs.declared.instruction.Operands.TheVariants.{FromRegister, FromMemory, Immediate}
+use Rattle.i86_table.specs.declared.instruction.TestMask.TheVariants as masks
 use Rattle.i86_table.specs.declared.instruction.Instr.{Instr}
 use Rattle.i86_table.specs.declared.instruction.Instr.TheVariants as i
 use Rattle.i86_table.specs.declared.open.Use.{Use}
@@ -19,23 +21,26 @@ use Rattle.i86_table.specs.declared.open.Use.TheVariants.{Load, Store, Operate}
 use Rattle.i86_table.specs.declared.open.Spot.{Spot}
 use Rattle.i86_table.specs.declared.open.Open.{Open}
 use Rattle.i86_table.specs.declared.open.Open.TheVariants as opens
+use Rattle.i86_table.specs.Arithmetic.{sign_extended}
 use Rattle.i86_table.specs.Numbers.{byte_register_code, word_register_code}
 use Rattle.i86_table.specs.Open.{spot_address, spot_memory, with_byte, with_word, closed}
 use Rattle.i86_code.specs.declared.form.Opcode.{Opcode}
 use Rattle.i86_code.specs.declared.form.Opcode.TheVariants as op
 use Rattle.i86_code.specs.declared.form.FieldKind.TheVariants as kinds
+use Rattle.i86_code.specs.declared.form.Fields.{Fields}
+use Rattle.i86_code.specs.declared.form.Fields.TheVariants as fields
 use Rattle.i86_code.specs.declared.form.Prefixes.{Prefixes}
 use Rattle.i86_code.specs.declared.form.RegisterOrMemory.{RegisterOrMemory}
 use Rattle.i86_code.specs.declared.form.Form.{Form}
 use Rattle.i86_code.specs.Opcode.{byte_register_at, word_register_at, field_kind_of}
-use Rattle.i86_code.specs.Forms.{FieldsFit, form_bytes, prefix_bytes, place_bytes, word_bytes, opcode_byte}
-use Rattle.i86_code.specs.Instructions.{usual_segment, direct, byte_operand, word_operand, to_register, addressed_instruction, word_instruction, instruction_from}
+use Rattle.i86_code.specs.Forms.{FieldsFit, operation_code, form_bytes, field_bytes, prefix_bytes, place_bytes, word_bytes, opcode_byte}
+use Rattle.i86_code.specs.Instructions.{usual_segment, direct, byte_operand, word_operand, to_register, addressed_instruction, addressed_byte_instruction, addressed_word_instruction, word_instruction, instruction_from}
 use Rattle.i86_code.specs.Ranges.{AddressFits}
-use Rattle.i86_code.specs.Writing.{prefix_for, prefix_at, is_al, is_ax, accumulator_form}
-use Rattle.i86_code.specs.Open.{address_byte, prefix_front, addressed_front, accumulator_front, use_front, front_of, IsOpen}
-use Rattle.i86_code.specs.Inner.OpenForms.{far_form, with_far, byte_form, word_form, open_form}
+use Rattle.i86_code.specs.Writing.{prefix_for, prefix_at, is_near, is_al, is_ax, accumulator_form}
+use Rattle.i86_code.specs.Open.{address_byte, prefix_front, addressed_front, accumulator_front, use_front, open_bytes, IsOpen}
+use Rattle.i86_code.specs.Inner.OpenForms.{far_form, in_memory, with_far, byte_form, word_form, compare_byte_form, compare_word_form, test_byte_form, open_form, ConstantFits}
 use Rattle.i86_code.proofs.RegisterLaws.{byte_again, byte_below, word_again, word_below}
-use Rattle.i86_code.proofs.WrittenForms.{under_again, no_repeat, Again, Says, said, al_is, ax_is, accumulator_again, direct_again}
+use Rattle.i86_code.proofs.WrittenForms.{under_again, no_repeat, Again, Says, said, chosen, near_again, al_is, ax_is, accumulator_again, direct_again}
 
 -- ---- the forms say them
 
@@ -93,18 +98,48 @@ spot_fits : (b : Option Base) (n : ℕ) → n < 2 ^ 16 → AddressFits (spot_add
 spot_fits None n l = l
 spot_fits (Some b) n l = l
 
-open_says : (x : Open) (n : ℕ) → n < 2 ^ 16 → Says (open_form x n) (closed x n)
-unfolding instruction_from word_instruction addressed_instruction
-open_says (opens.Number r) n l = said _ _ _ _ refl refl refl l
-open_says (opens.OperateAx o) n l = said _ _ _ _ refl refl refl l
-open_says (opens.Byte u r s) n l = byte_says u r (spot_memory s n) (spot_fits s.base n l)
-open_says (opens.Word u r s) n l = word_says u r (spot_memory s n) (spot_fits s.base n l)
-open_says (opens.JumpTo s) n l = word_far (op.StepGroup widths.Word) 4 (spot_memory s n) (λ x. i.JumpTo x) (omega arith) refl (λ q x. refl) (spot_fits s.base n l)
-open_says opens.Call n l = said _ _ _ _ refl refl refl l
-open_says opens.Jump n l = said _ _ _ _ refl refl refl l
+compare_byte_says : (m : Memory) (k : ℕ) → k < 2 ^ 8 → AddressFits m.address → Says (compare_byte_form m k) (i.AluByte Cmp (Immediate (rm.Memory m) k))
+unfolding instruction_from addressed_byte_instruction
+compare_byte_says m k below fits =
+    let again = far_again byte_register_at m.segment m.address fits in
+    said _ _ _ _ again.once (ap (λ (x : RmOperand Register8). Some (i.AluByte Cmp (Immediate x k))) again.same) refl (omega arith, again.fits, below)
 
-pub open_fits : (x : Open) (n : ℕ) → n < 2 ^ 16 → FieldsFit (open_form x n).fields
-open_fits x n l = (open_says x n l).fits
+compare_word_says : (m : Memory) (k : ℕ) → k < 2 ^ 16 → AddressFits m.address → Says (compare_word_form m k) (i.AluWord Cmp (Immediate (rm.Memory m) k))
+unfolding instruction_from addressed_byte_instruction addressed_word_instruction
+compare_word_says m k below fits =
+    let again = far_again word_register_at m.segment m.address fits in
+    elim (chosen (is_near k) (in_memory op.AluShort m (fields.AddressByte (operation_code Cmp) (far_form m.address) (k % 256))) (in_memory (op.AluImmediate widths.Word) m (fields.AddressWord (operation_code Cmp) (far_form m.address) k))) [
+      | inl short ↦
+          subst (λ (f : Form). Says f (i.AluWord Cmp (Immediate (rm.Memory m) k))) (sym short.1)
+          (said _ _ _ _ again.once
+          (ap (λ (x : RmOperand Register16). Some (i.AluWord Cmp (Immediate x (sign_extended (k % 256))))) again.same ∙ ap (λ (n : ℕ). Some (i.AluWord Cmp (Immediate (rm.Memory m) n))) (near_again k below short.0))
+          refl (omega arith, again.fits, omega arith))
+      | inr long ↦
+          subst (λ (f : Form). Says f (i.AluWord Cmp (Immediate (rm.Memory m) k))) (sym long.1)
+          (said _ _ _ _ again.once (ap (λ (x : RmOperand Register16). Some (i.AluWord Cmp (Immediate x k))) again.same) refl (omega arith, again.fits, below))
+    ]
+
+test_byte_says : (m : Memory) (k : ℕ) → k < 2 ^ 8 → AddressFits m.address → Says (test_byte_form m k) (i.TestByte (rm.Memory m) (masks.Immediate k))
+unfolding instruction_from
+test_byte_says m k below fits =
+    let again = far_again byte_register_at m.segment m.address fits in
+    said _ _ _ _ again.once (ap (λ (x : RmOperand Register8). Some (i.TestByte x (masks.Immediate k))) again.same) refl (again.fits, below)
+
+open_says : (x : Open) (n : ℕ) → ConstantFits x → n < 2 ^ 16 → Says (open_form x n) (closed x n)
+unfolding instruction_from word_instruction addressed_instruction
+open_says (opens.Number r) n fits l = said _ _ _ _ refl refl refl l
+open_says (opens.OperateAx o) n fits l = said _ _ _ _ refl refl refl l
+open_says (opens.Byte u r s) n fits l = byte_says u r (spot_memory s n) (spot_fits s.base n l)
+open_says (opens.Word u r s) n fits l = word_says u r (spot_memory s n) (spot_fits s.base n l)
+open_says (opens.CompareByte s k) n fits l = compare_byte_says (spot_memory s n) k fits (spot_fits s.base n l)
+open_says (opens.CompareWord s k) n fits l = compare_word_says (spot_memory s n) k fits (spot_fits s.base n l)
+open_says (opens.TestByte s m) n fits l = test_byte_says (spot_memory s n) m fits (spot_fits s.base n l)
+open_says (opens.JumpTo s) n fits l = word_far (op.StepGroup widths.Word) 4 (spot_memory s n) (λ x. i.JumpTo x) (omega arith) refl (λ q x. refl) (spot_fits s.base n l)
+open_says opens.Call n fits l = said _ _ _ _ refl refl refl l
+open_says opens.Jump n fits l = said _ _ _ _ refl refl refl l
+
+pub open_fits : (x : Open) (n : ℕ) → ConstantFits x → n < 2 ^ 16 → FieldsFit (open_form x n).fields
+open_fits x n fits l = (open_says x n fits l).fits
 
 -- ---- their bytes
 
@@ -116,11 +151,19 @@ same_prefix : (s : Segment) (b : Option Base) (n : ℕ) → prefix_at s (spot_ad
 same_prefix s None n = refl
 same_prefix s (Some b) n = refl
 
+-- the bytes of an operand in memory and a constant
+constant_bytes : (k : Opcode) (r : ℕ) (s : Spot) (n : ℕ) (f : Fields) (back : List ℕ) → field_bytes f ≡ place_bytes r (far_form (spot_address s.base n)) ++ back → form_bytes (in_memory k (spot_memory s n) f) ≡ addressed_front k r s ++ (word_bytes n ++ back)
+constant_bytes k r s n f back e =
+    ap (λ (p : Prefixes). prefix_bytes p ++ (opcode_byte k ∷ field_bytes f)) (same_prefix s.segment s.base n)
+    ∙ ap (λ (l : List ℕ). prefix_front s ++ opcode_byte k ∷ l) (e ∙ ap (λ (l : List ℕ). l ++ back) (far_bytes r s.base n))
+    ∙ sym (append_assoc (prefix_front s) (opcode_byte k ∷ address_byte r s.base ∷ []) (word_bytes n ++ back))
+
 addressed_bytes : (k : Opcode) (r : ℕ) (s : Spot) (n : ℕ) → form_bytes (with_far k r (spot_memory s n)) ≡ addressed_front k r s ++ word_bytes n
-addressed_bytes k r s n =
-    ap (λ (p : Prefixes). prefix_bytes p ++ (opcode_byte k ∷ place_bytes r (far_form (spot_address s.base n)))) (same_prefix s.segment s.base n)
-    ∙ ap (λ (l : List ℕ). prefix_front s ++ opcode_byte k ∷ l) (far_bytes r s.base n)
-    ∙ sym (append_assoc (prefix_front s) (opcode_byte k ∷ address_byte r s.base ∷ []) (word_bytes n))
+addressed_bytes k r s n = constant_bytes k r s n (fields.Address r (far_form (spot_address s.base n))) [] (sym (append-nil _))
+
+compare_word_bytes : (near : Bool) (k : ℕ) (s : Spot) (n : ℕ) → is_near k ≡ near → form_bytes (compare_word_form (spot_memory s n) k) ≡ open_bytes (opens.CompareWord s k) n
+compare_word_bytes true k s n e = rw e (constant_bytes op.AluShort (operation_code Cmp) s n (fields.AddressByte (operation_code Cmp) (far_form (spot_address s.base n)) (k % 256)) (k % 256 ∷ []) refl)
+compare_word_bytes false k s n e = rw e (constant_bytes (op.AluImmediate widths.Word) (operation_code Cmp) s n (fields.AddressWord (operation_code Cmp) (far_form (spot_address s.base n)) k) (word_bytes k) refl)
 
 accumulator_bytes : (is : Bool) (k : Opcode) (other : Form) (front : List ℕ) (g : Segment) (b : Option Base) (n : ℕ) → form_bytes other ≡ front ++ word_bytes n
     → form_bytes (accumulator_form is k other g (spot_address b n)) ≡ accumulator_front is b k front (record { segment = g; base = b }) ++ word_bytes n
@@ -138,16 +181,19 @@ word_use_bytes Load r s n = accumulator_bytes (is_ax r) (op.MoveFromDirect width
 word_use_bytes Store r s n = accumulator_bytes (is_ax r) (op.MoveToDirect widths.Word) _ _ s.segment s.base n (addressed_bytes (op.MoveToPlace widths.Word) (word_register_code r) s n)
 word_use_bytes (Operate o) r s n = addressed_bytes (op.AluToRegister o widths.Word) (word_register_code r) s n
 
-pub open_bytes : (x : Open) (n : ℕ) → form_bytes (open_form x n) ≡ front_of x ++ word_bytes n
-open_bytes (opens.Number r) n = refl
-open_bytes (opens.OperateAx o) n = refl
-open_bytes (opens.Byte u r s) n = byte_bytes u r s n
-open_bytes (opens.Word u r s) n = word_use_bytes u r s n
-open_bytes (opens.JumpTo s) n = addressed_bytes (op.StepGroup widths.Word) 4 s n
-open_bytes opens.Call n = refl
-open_bytes opens.Jump n = refl
+pub open_spelling : (x : Open) (n : ℕ) → form_bytes (open_form x n) ≡ open_bytes x n
+open_spelling (opens.Number r) n = refl
+open_spelling (opens.OperateAx o) n = refl
+open_spelling (opens.Byte u r s) n = byte_bytes u r s n
+open_spelling (opens.Word u r s) n = word_use_bytes u r s n
+open_spelling (opens.CompareByte s k) n = constant_bytes (op.AluImmediate widths.Byte) (operation_code Cmp) s n (fields.AddressByte (operation_code Cmp) (far_form (spot_address s.base n)) k) (k ∷ []) refl
+open_spelling (opens.CompareWord s k) n = compare_word_bytes (is_near k) k s n refl
+open_spelling (opens.TestByte s m) n = constant_bytes (op.UnaryGroup widths.Byte) 0 s n (fields.TestByte (far_form (spot_address s.base n)) m) (m ∷ []) refl
+open_spelling (opens.JumpTo s) n = addressed_bytes (op.StepGroup widths.Word) 4 s n
+open_spelling opens.Call n = refl
+open_spelling opens.Jump n = refl
 
-pub is_open : (x : Open) → IsOpen x
-is_open x n l =
-    let says = open_says x n l in
-    record { form = open_form x n; fits = record { kind = says.kind; fits = says.fits }; spelling = sym (open_bytes x n); says = says.says }
+pub is_open : (x : Open) → ConstantFits x → IsOpen x
+is_open x fits n l =
+    let says = open_says x n fits l in
+    record { form = open_form x n; fits = record { kind = says.kind; fits = says.fits }; spelling = sym (open_spelling x n); says = says.says }

@@ -161,7 +161,7 @@ ax_or (rm.Register Bp) = inr refl
 ax_or (rm.Register Si) = inr refl
 ax_or (rm.Register Di) = inr refl
 
-near_again : (d : ℕ) → d < 2 ^ 16 → is_near d ≡ true → sign_extended (d % 256) ≡ d
+pub near_again : (d : ℕ) → d < 2 ^ 16 → is_near d ≡ true → sign_extended (d % 256) ≡ d
 near_again d fits near = grind (arith, near)
 
 based_place : {R : Type 0} (at : ℕ → R) (p : Prefixes) (base : Base) (d : ℕ) → d < 2 ^ 16 → operand at p (based_form base d) ≡ rm.Memory (based p base d)

@@ -1,7 +1,8 @@
--- The bytes of instructions that end in a word which is known only later.
-use Rattle.std.specs.Prelude.{ℕ, ◌+◌, ◌*◌, ◌<◌, ◌^◌, Bool, true, false, List, [], ◌∷◌, ◌++◌, Option, Some, None}
+-- The bytes of instructions with a word that is known only later.
+use Rattle.std.specs.Prelude.{ℕ, ◌+◌, ◌*◌, ◌%◌, ◌<◌, ◌^◌, Bool, true, false, List, [], ◌∷◌, ◌++◌, Option, Some, None, if◌then◌else◌}
 use Rattle.word86.specs.declared.width.Width.{Width}
 use Rattle.word86.specs.declared.width.Width.TheVariants as widths
+use Rattle.i86_table.specs.declared.instruction.AluOperation.TheVariants.{Cmp}
 use Rattle.i86_table.specs.declared.instruction.Base.{Base}
 use Rattle.i86_table.specs.declared.open.Use.{Use}
 use Rattle.i86_table.specs.declared.open.Use.TheVariants.{Load, Store, Operate}
@@ -12,8 +13,8 @@ use Rattle.i86_table.specs.Numbers.{byte_register_code, word_register_code}
 use Rattle.i86_table.specs.Open.{spot_address, closed}
 use Rattle.i86_code.specs.declared.form.Opcode.{Opcode}
 use Rattle.i86_code.specs.declared.form.Opcode.TheVariants as op
-use Rattle.i86_code.specs.Forms.{base_code, prefix_bytes, word_bytes, opcode_byte, Spells}
-use Rattle.i86_code.specs.Writing.{prefix_at, is_al, is_ax}
+use Rattle.i86_code.specs.Forms.{operation_code, base_code, prefix_bytes, word_bytes, opcode_byte, Spells}
+use Rattle.i86_code.specs.Writing.{prefix_at, is_near, is_al, is_ax}
 
 -- the address byte of a place with a word for its number: [number] or [base+number]
 abbrev pub address_byte : ℕ → Option Base → ℕ
@@ -37,16 +38,40 @@ use_front is_accumulator w Load r s = accumulator_front is_accumulator s.base (o
 use_front is_accumulator w Store r s = accumulator_front is_accumulator s.base (op.MoveToDirect w) (addressed_front (op.MoveToPlace w) r s) s
 use_front is_accumulator w (Operate o) r s = addressed_front (op.AluToRegister o w) r s
 
+-- 83H where the constant is a sign-extended byte
+abbrev pub compare_word_opcode : ℕ → Opcode
+compare_word_opcode k = if is_near k then op.AluShort else op.AluImmediate widths.Word
+
 -- the bytes before the word
 abbrev pub front_of : Open → List ℕ
 front_of (opens.Number r) = opcode_byte (op.MoveRegisterWord r) ∷ []
 front_of (opens.OperateAx o) = opcode_byte (op.AluAccumulator o widths.Word) ∷ []
 front_of (opens.Byte u r s) = use_front (is_al r) widths.Byte u (byte_register_code r) s
 front_of (opens.Word u r s) = use_front (is_ax r) widths.Word u (word_register_code r) s
+front_of (opens.CompareByte s k) = addressed_front (op.AluImmediate widths.Byte) (operation_code Cmp) s
+front_of (opens.CompareWord s k) = addressed_front (compare_word_opcode k) (operation_code Cmp) s
+front_of (opens.TestByte s m) = addressed_front (op.UnaryGroup widths.Byte) 0 s
 front_of (opens.JumpTo s) = addressed_front (op.StepGroup widths.Word) 4 s
 front_of opens.Call = opcode_byte op.Call ∷ []
 front_of opens.Jump = opcode_byte op.Jump ∷ []
 
+-- the bytes behind the word
+abbrev pub back_of : Open → List ℕ
+back_of (opens.Number r) = []
+back_of (opens.OperateAx o) = []
+back_of (opens.Byte u r s) = []
+back_of (opens.Word u r s) = []
+back_of (opens.CompareByte s k) = k ∷ []
+back_of (opens.CompareWord s k) = if is_near k then k % 256 ∷ [] else word_bytes k
+back_of (opens.TestByte s m) = m ∷ []
+back_of (opens.JumpTo s) = []
+back_of opens.Call = []
+back_of opens.Jump = []
+
+-- all its bytes, with this number in the word
+abbrev pub open_bytes : Open → (number : ℕ) → List ℕ
+open_bytes x n = front_of x ++ (word_bytes n ++ back_of x)
+
 -- whatever number stands in the word, the bytes spell the instruction with it
 abbrev pub IsOpen : Open → Type 0
-IsOpen x = (n : ℕ) → n < 2 ^ 16 → Spells (front_of x ++ word_bytes n) (closed x n)
+IsOpen x = (n : ℕ) → n < 2 ^ 16 → Spells (open_bytes x n) (closed x n)

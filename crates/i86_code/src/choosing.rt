@@ -44,8 +44,8 @@ fn prefix_of<R: Copy>(place: &RmOperand<R>) -> Prefixes
     }
 }
 
-/// Whether a displacement is a byte that is extended with its sign.
-fn is_near(displacement: u16) -> bool
+/// Whether a displacement or a constant is a byte that is extended with its sign.
+pub(crate) fn is_near(displacement: u16) -> bool
     ensures { result ≡ is_near displacement }
 {
     displacement < 128 || displacement >= 65408

@@ -15,5 +15,5 @@ mod writing;
 pub use coding::{decode, decoded_spells, decoded_widths, encode, one_form, round_trip};
 pub use form::{FieldKind, Fields, Form, Opcode, Prefixes, RegisterOrMemory};
 pub use numbers::Numbered;
-pub use open::encode_open;
+pub use open::{bytes_behind, encode_open};
 pub use ranges::instruction_fits;

@@ -29,8 +29,8 @@ use Rattle.i86_table.specs.declared.instruction.Signedness.{Signedness}
 use Rattle.i86_table.specs.declared.instruction.Signedness.TheVariants.{Unsigned, Signed}
 use Rattle.i86_table.specs.declared.instruction.Instr.{Instr}
 use Rattle.i86_table.specs.declared.instruction.Instr.TheVariants as i
-use Rattle.i86_table.specs.Arithmetic.{sign_extended, sign_word, operated, added, subtracted, combined, changed, shifted, moved, moved_once, magnitude, is_negative, same, with_sign, multiplied, divided, sign, is_comparison}
-use Rattle.i86_table.specs.Contexts.{Context, Own, Working, Given, offset_in, further, top_of, stack_pointer, stack_word, word_in, byte_in, set_word, set_byte, set_flags, alu_word, alu_byte, is_sp, is_stack, unless, silently, reads, writes, takes, moved_word, stack_offer, jump_offer, offered, offered_at, room, refused, pop_offer, divides, word_quotient, byte_quotient, move_word_offer, move_byte_offer, alu_word_offer, alu_byte_offer, place_of, masks_sp, count_in, enable_offer, end_offer, gives_back}
+use Rattle.i86_table.specs.Arithmetic.{sign_extended, sign_word, operated, added, subtracted, combined, changed, shifted, moved, moved_once, magnitude, is_negative, same, with_sign, multiplied, divided, sign, is_comparison, tested}
+use Rattle.i86_table.specs.Contexts.{Context, Own, Working, Given, offset_in, further, top_of, stack_pointer, stack_word, word_in, byte_in, set_word, set_byte, set_flags, alu_word, alu_byte, is_sp, is_stack, unless, silently, reads, writes, takes, moved_word, stack_offer, jump_offer, offered, offered_at, room, refused, pop_offer, divides, word_quotient, byte_quotient, move_word_offer, move_byte_offer, alu_word_offer, alu_byte_offer, place_of, masks_sp, byte_mask, count_in, enable_offer, end_offer, gives_back}
 use Rattle.i86_table.specs.Widths.{HasWidths}
 use Rattle.i86_table.specs.Words.{AreWords, AllWords, HasWords, LeadsToWords, KeepsWords}
 use Rattle.i86_table.proofs.ProductProofs.{magnitude_small, magnitude_some, product_small, even_width}
@@ -328,6 +328,7 @@ module _ (find : ℕ → ℕ → Option (ℕ × ℕ)) (words : ℕ → Option �
   keeps (i.AluByte k o) st a w f = alus_byte k o st w f
   keeps (i.TestWord (places.Register r) n) st a w f = fits_unless (is_sp r) _ (fits_unless (masks_sp n) _ (flags_fit g _ h, w, t))
   keeps (i.TestByte (places.Register r) n) st a w f = (flags_fit g _ h, w, t)
+  keeps (i.TestByte (places.Memory at) n) st a w f = fits_read (place_of find g at widths.Byte) widths.Byte (λ v. Own q (set_flags g (tested widths.Byte v (byte_mask g n) g.flags)) st false given) (λ v l. (flags_fit g _ h, w, t))
   keeps (i.ExchangeWords p) st a w f =
       fits_unless (is_sp p.first) _ (fits_unless (is_sp p.second) _ (set_fits p.second (set_word g p.first (word_in g p.second)) (word_in g p.first) (set_fits p.first g (word_in g p.second) h (word_fits g h p.second)) (word_fits g h p.first), w, t))
   keeps (i.UnaryWord k (places.Register r)) st a w f =

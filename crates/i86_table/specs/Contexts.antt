@@ -336,6 +336,7 @@ module _ (find : (offset n : ℕ) → Option (ℕ × ℕ)) (words : (offset : �
   offered (i.AluByte f operands) q g st a given = alu_byte_offer find f operands q g st given
   offered (i.TestWord (rm.Register r) n) q g st a given = unless (is_sp r) (unless (masks_sp n) (silently (Own q (set_flags g (tested widths.Word (word_in g r) (word_mask g n) g.flags)) st false given)))
   offered (i.TestByte (rm.Register r) n) q g st a given = silently (Own q (set_flags g (tested widths.Byte (byte_in g r) (byte_mask g n) g.flags)) st false given)
+  offered (i.TestByte (rm.Memory at) n) q g st a given = reads (place_of find g at widths.Byte) widths.Byte (λ v. Own q (set_flags g (tested widths.Byte v (byte_mask g n) g.flags)) st false given)
   offered (i.ExchangeWords p) q g st a given = unless (is_sp p.first) (unless (is_sp p.second) (silently (Own q (exchanged p.first p.second g) st false given)))
   offered (i.UnaryWord f (rm.Register r)) q g st a given = unless (is_sp r) (silently (Own q (word_result r g (changed f widths.Word (word_in g r) g.flags)) st false given))
   offered (i.UnaryByte f (rm.Register r)) q g st a given = silently (Own q (byte_result r g (changed f widths.Byte (byte_in g r) g.flags)) st false given)

@@ -1,14 +1,16 @@
--- The instructions that an open one becomes: one for each number in the word at its end.
+-- The instructions that an open one becomes: one for each number in its word.
 use Rattle.std.specs.Prelude.{ℕ, Option, Some, None}
 use Rattle.i86_table.specs.declared.registers.Register16.{Register16}
 use Rattle.i86_table.specs.declared.registers.Register16.TheVariants.{Ax}
 use Rattle.i86_table.specs.declared.registers.Register8.{Register8}
+use Rattle.i86_table.specs.declared.instruction.AluOperation.TheVariants.{Cmp}
 use Rattle.i86_table.specs.declared.instruction.Base.{Base}
 use Rattle.i86_table.specs.declared.instruction.Address.{Address}
 use Rattle.i86_table.specs.declared.instruction.Address.TheVariants.{Direct, Based}
 use Rattle.i86_table.specs.declared.instruction.Memory.{Memory}
 use Rattle.i86_table.specs.declared.instruction.RmOperand.TheVariants as rm
 use Rattle.i86_table.specs.declared.instruction.Operands.TheVariants.{FromRegister, FromMemory, Immediate}
+use Rattle.i86_table.specs.declared.instruction.TestMask.TheVariants as masks
 use Rattle.i86_table.specs.declared.instruction.Instr.{Instr}
 use Rattle.i86_table.specs.declared.instruction.Instr.TheVariants as i
 use Rattle.i86_table.specs.declared.open.Use.{Use}
@@ -41,6 +43,9 @@ closed (opens.Number r) n = i.MoveWord (Immediate (rm.Register r) n)
 closed (opens.OperateAx o) n = i.AluWord o (Immediate (rm.Register Ax) n)
 closed (opens.Byte u r s) n = with_byte u r (spot_memory s n)
 closed (opens.Word u r s) n = with_word u r (spot_memory s n)
+closed (opens.CompareByte s k) n = i.AluByte Cmp (Immediate (rm.Memory (spot_memory s n)) k)
+closed (opens.CompareWord s k) n = i.AluWord Cmp (Immediate (rm.Memory (spot_memory s n)) k)
+closed (opens.TestByte s m) n = i.TestByte (rm.Memory (spot_memory s n)) (masks.Immediate m)
 closed (opens.JumpTo s) n = i.JumpTo (rm.Memory (spot_memory s n))
 closed opens.Call n = i.Call n
 closed opens.Jump n = i.Jump n

@@ -1,9 +1,11 @@
-//! Instructions that end in a word which is known only when the parts of a program are placed.
+//! Instructions with a word that is known only when the parts of a program are placed.
 
 ghost use Rattle.std.specs.Prelude.{◌≡◌};
 ghost use Rattle.i86_table.specs.Open.{spot_memory, closed};
 
-use crate::instruction::{Address, AluOperation, Base, Instr, Memory, Operands, RmOperand};
+use crate::instruction::{
+    Address, AluOperation, Base, Instr, Memory, Operands, RmOperand, TestMask,
+};
 use crate::registers::{Register8, Register16, Segment};
 
 /// What an instruction does with its register and its operand in memory.
@@ -43,7 +45,7 @@ impl Spot {
     }
 }
 
-/// An instruction but for the word at its end.
+/// An instruction but for one word, behind which at most a constant stands.
 #[derive(Clone, Copy)]
 pub enum Open {
     /// MOV register,number.
@@ -54,6 +56,12 @@ pub enum Open {
     Byte(Use, Register8, Spot),
     /// A word register and the word at a place of this number.
     Word(Use, Register16, Spot),
+    /// CMP of the byte at a place of this number and a constant.
+    CompareByte(Spot, u8),
+    /// CMP of the word at a place of this number and a constant.
+    CompareWord(Spot, u16),
+    /// TEST of the byte at a place of this number and a mask.
+    TestByte(Spot, u8),
     /// JMP to the offset that lies at a place of this number.
     JumpTo(Spot),
     /// CALL by this distance, modulo 65,536.
@@ -103,6 +111,18 @@ impl Open {
             }
             Open::Byte(usage, register, spot) => with_byte(usage, register, spot.at(number)),
             Open::Word(usage, register, spot) => with_word(usage, register, spot.at(number)),
+            Open::CompareByte(spot, constant) => {
+                let place = RmOperand::Memory(spot.at(number));
+                Instr::AluByte(AluOperation::Cmp, Operands::Immediate(place, constant))
+            }
+            Open::CompareWord(spot, constant) => {
+                let place = RmOperand::Memory(spot.at(number));
+                Instr::AluWord(AluOperation::Cmp, Operands::Immediate(place, constant))
+            }
+            Open::TestByte(spot, mask) => {
+                let place = RmOperand::Memory(spot.at(number));
+                Instr::TestByte(place, TestMask::Immediate(mask))
+            }
             Open::JumpTo(spot) => Instr::JumpTo(RmOperand::Memory(spot.at(number))),
             Open::Call => Instr::Call(number),
             Open::Jump => Instr::Jump(number),

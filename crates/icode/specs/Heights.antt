@@ -20,6 +20,8 @@ popped (test.Top o) = 1
 popped (test.Low o (rights.Constant k)) = 0
 popped (test.Low o (rights.Plain x)) = 0
 popped (test.Low o rights.Top) = 1
+popped (test.Named o read x k) = 0
+popped (test.OddNamed x) = 0
 
 -- how many values of this number are left once an operator has its right operand
 abbrev pub after_right : Right → ℕ → ℕ
@@ -57,6 +59,7 @@ after (op.Store width x) h = h
 after (op.StoreAt width x) h = h - 1
 after (op.StoreThere width) h = h - 1
 after (op.StoreTop width x) h = h - 1
+after (op.StoreConstantAt width x k) h = h
 after (op.Send width) h = h - 1
 after (op.SendTo width port) h = h
 after (op.Receive width) h = h
@@ -103,6 +106,7 @@ target (op.Store width x) p = None
 target (op.StoreAt width x) p = None
 target (op.StoreThere width) p = None
 target (op.StoreTop width x) p = None
+target (op.StoreConstantAt width x k) p = None
 target (op.Send width) p = None
 target (op.SendTo width port) p = None
 target (op.Receive width) p = None
@@ -150,6 +154,7 @@ called (op.Store width x) = None
 called (op.StoreAt width x) = None
 called (op.StoreThere width) = None
 called (op.StoreTop width x) = None
+called (op.StoreConstantAt width x k) = None
 called (op.Send width) = None
 called (op.SendTo width port) = None
 called (op.Receive width) = None

@@ -153,6 +153,7 @@ case_of (op.Store width x) = None
 case_of (op.StoreAt width x) = None
 case_of (op.StoreThere width) = None
 case_of (op.StoreTop width x) = None
+case_of (op.StoreConstantAt width x k) = None
 case_of (op.Send width) = None
 case_of (op.SendTo width port) = None
 case_of (op.Receive width) = None
@@ -229,6 +230,8 @@ module _ (offsets sizes : List ℕ) where
   jumped (test.Plain o read x) r p q a ws = loaded read (found read x (address x 0)) (λ v. At r (if stands o a v then p else q) a ws)
   jumped (test.Top o) r p q a ws = with_value (value_on_top ws) (λ v. Silent (At r (if stands o v a then p else q) a (drop 1 ws)))
   jumped (test.Low o x) r p q a ws = jumped_low o x r p q a ws
+  jumped (test.Named o read x k) r p q a ws = loaded read (found read x (address x 0)) (λ v. At r (if stands o v (low read k) then p else q) a ws)
+  jumped (test.OddNamed x) r p q a ws = byte_at x 0 (λ v. At r (if is_odd v then p else q) a ws)
 
   -- an instruction among those of its routine; the index of the instruction after it; the accumulator; the words
   module _ (all : List Instruction) where
@@ -251,6 +254,7 @@ module _ (offsets sizes : List ℕ) where
     run (op.StoreAt width x) r p a ws = with_value (value_on_top ws) (λ v. stored width (found width x (address x a)) v (At r p v (drop 1 ws)))
     run (op.StoreThere width) r p a ws = with_value (value_on_top ws) (λ v. stored width (held 0 offsets sizes a (bytes width)) v (At r p v (drop 1 ws)))
     run (op.StoreTop width x) r p a ws = with_value (value_on_top ws) (λ v. stored width (found width x (address x 0)) v (At r p a (drop 1 ws)))
+    run (op.StoreConstantAt width x k) r p a ws = stored width (found width x (address x a)) k (At r p k ws)
     run (op.Send width) r p a ws = with_value (value_on_top ws) (λ v. Touch (Output width a (low width v)) (λ _. At r p v (drop 1 ws)))
     run (op.SendTo width port) r p a ws = Touch (Output width port (low width a)) (λ _. At r p a ws)
     run (op.Receive width) r p a ws = Touch (Input width a) (λ v. At r p v ws)

@@ -14,6 +14,8 @@ asked_constant (test.Constant o k) = k
 asked_constant (test.Plain o read x) = 0
 asked_constant (test.Top o) = 0
 asked_constant (test.Low o x) = 0
+asked_constant (test.Named o read x k) = k
+asked_constant (test.OddNamed x) = 0
 
 abbrev pub constant_in : Instruction → ℕ
 constant_in (op.Constant k) = k
@@ -34,6 +36,7 @@ constant_in (op.Store width x) = 0
 constant_in (op.StoreAt width x) = 0
 constant_in (op.StoreThere width) = 0
 constant_in (op.StoreTop width x) = 0
+constant_in (op.StoreConstantAt width x k) = k
 constant_in (op.Send width) = 0
 constant_in (op.SendTo width port) = 0
 constant_in (op.Receive width) = 0
@@ -72,6 +75,7 @@ cases_of (op.Store width x) = 0
 cases_of (op.StoreAt width x) = 0
 cases_of (op.StoreThere width) = 0
 cases_of (op.StoreTop width x) = 0
+cases_of (op.StoreConstantAt width x k) = 0
 cases_of (op.Send width) = 0
 cases_of (op.SendTo width port) = 0
 cases_of (op.Receive width) = 0

@@ -128,6 +128,8 @@ of_test (test.Plain o widths.Byte x) = just_right
 of_test (test.Plain o widths.Word x) = none
 of_test (test.Top o) = just_right
 of_test (test.Low o x) = of_low_test x
+of_test (test.Named o read x k) = none
+of_test (test.OddNamed x) = none
 
 abbrev pub of_drop : ℕ → Registers
 of_drop n = if nat_eq n 1 then just_right else none
@@ -151,6 +153,7 @@ changes (op.Store width x) = none
 changes (op.StoreAt width x) = record none { accumulator = true; address = true }
 changes (op.StoreThere width) = record none { accumulator = true; address = true }
 changes (op.StoreTop width x) = just_right
+changes (op.StoreConstantAt width x k) = record none { accumulator = true; address = true }
 changes (op.Send width) = record none { accumulator = true; high = true }
 changes (op.SendTo width port) = of_port port
 changes (op.Receive width) = record none { accumulator = true; high = true }

@@ -79,6 +79,10 @@ pub enum Test {
     Top(Relation),
     /// Whether low bytes stand in a relation.
     Low(Relation, Right),
+    /// Whether what is read with this width at a place stands in a relation to a constant's low bits of that width.
+    Named(Relation, Width, Place, u16),
+    /// Whether the byte at a place is odd.
+    OddNamed(Place),
 }
 
 /// An instruction. A value of 8 bits stands in the accumulator and on the stack with a high byte of 0, unless a `Low` has kept the
@@ -116,6 +120,8 @@ pub enum Instruction {
     /// the accumulator gets the value.
     StoreAt(Width, Place),
     StoreThere(Width),
+    /// A constant is written as many bytes after a place as the accumulator says; the accumulator gets the constant.
+    StoreConstantAt(Width, Place, u16),
     /// The value on top, which goes, is written at a place; the accumulator stays as it is.
     StoreTop(Width, Place),
     /// The value on top, which goes, is written to the port in the accumulator, which gets the value; the accumulator, which stays

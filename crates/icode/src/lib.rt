@@ -3,6 +3,7 @@
 
 mod code;
 mod instruction;
+mod low_bytes;
 mod machine;
 mod ram_objects;
 mod registers;

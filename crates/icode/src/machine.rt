@@ -2,7 +2,6 @@
 
 ghost use Rattle.std.specs.Prelude.{◌≡◌, ℕ, suc, ◌+◌, ◌%◌, ◌∷◌, [], List, false, slice_get, drop, nat_lt, if◌then◌else◌};
 ghost use Rattle.std.specs.Option.{option_map};
-ghost use Rattle.word86.specs.declared.width.Width.TheVariants as widths;
 ghost use Rattle.word86.specs.Access.{Output, Input};
 ghost use Rattle.word86.specs.Action.{Silent, Touch};
 ghost use Rattle.word86.specs.Arithmetic.{low};
@@ -13,11 +12,11 @@ ghost use Rattle.icode.specs.declared.code.Routine.TheVariants as routine;
 ghost use Rattle.icode.specs.declared.code.Word.TheVariants.{Return};
 ghost use Rattle.icode.specs.declared.machine.Step.TheVariants as step;
 ghost use Rattle.icode.specs.declared.machine.Stop.TheVariants as stop;
-ghost use Rattle.icode.specs.Machine.{Context as Target, At, run, stands, jumped, case_of, switched, dropped, computed, value_in, value_on_top, return_on_top, with_value, operated, loaded, stored, stepped, with_low, left, run_low, by_right, jumped_low, settled, direct_value, case_in};
+ghost use Rattle.icode.specs.Machine.{Context as Target, At, run, stands, jumped, case_of, switched, dropped, computed, value_in, value_on_top, return_on_top, with_value, operated, loaded, stored, stepped, with_low, left, case_in};
 ghost use Rattle.icode.specs.Shown.{shown, words_of, action_of, access_in, Does};
 
 use crate::code::{Code, Position, Routine, Word};
-use crate::instruction::{Direct, High, Instruction, LowByte, Relation, Right, Test};
+use crate::instruction::{Instruction, Relation, Test};
 use crate::ram_objects::RamObjects;
 use std::alloc::Global;
 use word86::{Access, BinaryOperation, Place, Width, signed16};
@@ -48,9 +47,9 @@ pub enum Stop {
 
 /// Where a context stands, its accumulator, and the words that it pushed, the newest last.
 #[derive(Drop)]
-struct Context {
+pub(crate) struct Context {
     position: Position,
-    accumulator: u16,
+    pub(crate) accumulator: u16,
     words: Vec<Word>,
 }
 
@@ -62,8 +61,8 @@ pub struct Machine<'a> {
     context: Context,
 }
 
-// A read where there may be no place.
-fn read(width: Width, place: Option<Place>) -> Option<Access>
+/// A read where there may be no place.
+pub(crate) fn read(width: Width, place: Option<Place>) -> Option<Access>
     ensures { (k : ℕ → Target) → option_map access_of result ≡ access_in (loaded width (option_map where_of place) k) }
 {
     match place {
@@ -89,53 +88,15 @@ fn read_by(ram_objects: RamObjects<'_>, test: Test) -> Option<Access>
     match test {
         Test::Plain(_, width, place) => read(width, ram_objects.reached(width, place, 0)),
         Test::Low(_, right) => right.read(ram_objects),
+        Test::Named(_, width, place, _) => read(width, ram_objects.reached(width, place, 0)),
+        Test::OddNamed(place) => read(Width::Byte, ram_objects.reached(Width::Byte, place, 0)),
         Test::Odd | Test::Constant(_, _) | Test::Top(_) => None,
     }
 }
 
-impl Right {
-    // The read that it makes.
-    fn read(self, ram_objects: RamObjects<'_>) -> Option<Access>
-        ensures tested { (relation : Relation) (routine : Routine) (next target accumulator : ℕ) (words : List Word) → option_map access_of result ≡ access_in (jumped_low ram_objects.entry.offsets.now ram_objects.entry.sizes.now relation self routine next target accumulator words) }
-        ensures applied { (operation : Direct) (high : High) (routine : Routine) (next accumulator : ℕ) (words : List Word) → option_map access_of result ≡ access_in (by_right ram_objects.entry.offsets.now ram_objects.entry.sizes.now operation self high routine next accumulator words) }
-    {
-        match self {
-            Right::Constant(_) | Right::Top => None,
-            Right::Plain(place) => read(Width::Byte, ram_objects.reached(Width::Byte, place, 0)),
-        }
-    }
-}
-
-impl Direct {
-    // Its value on bytes.
-    fn value(self, left: u8, right: u8) -> u8
-        ensures { result ≡ direct_value self left right }
-    {
-        match self {
-            Direct::Add => left.wrapping_add(right),
-            Direct::Subtract => left.wrapping_sub(right),
-            Direct::And => left & right,
-            Direct::Or => left | right,
-            Direct::ExclusiveOr => left ^ right,
-        }
-    }
-}
-
-impl High {
-    // A value with this low byte.
-    fn settled(self, value: u16, low: u8) -> u16
-        ensures { result ≡ settled self value low }
-    {
-        match self {
-            High::Kept => value / 256 * 256 + u16::from(low),
-            High::Cleared => u16::from(low),
-        }
-    }
-}
-
 impl Relation {
-    // Whether it stands between two numbers.
-    fn stands(self, left: u16, right: u16) -> bool
+    /// Whether it stands between two numbers.
+    pub(crate) fn stands(self, left: u16, right: u16) -> bool
         ensures { result ≡ stands self left right }
     {
         match self {
@@ -178,6 +139,7 @@ impl Instruction {
             | Instruction::StoreAt(_, _)
             | Instruction::StoreThere(_)
             | Instruction::StoreTop(_, _)
+            | Instruction::StoreConstantAt(_, _, _)
             | Instruction::Send(_)
             | Instruction::SendTo(_, _)
             | Instruction::Receive(_)
@@ -236,8 +198,8 @@ fn case_at(all: &[Instruction], index: usize) -> Option<usize>
 }
 
 impl Context {
-    // On to another instruction of the body, with this in the accumulator.
-    fn go_on(&mut self, index: usize, value: u16) -> Step
+    /// On to another instruction of the body, with this in the accumulator.
+    pub(crate) fn go_on(&mut self, index: usize, value: u16) -> Step
         ensures new { shown self.new ≡ At self.old.position.routine index value (words_of self.old) }
         ensures silent { result ≡ step.Silent }
     {
@@ -246,8 +208,8 @@ impl Context {
         Step::Silent
     }
 
-    // The same after an access.
-    fn touch(&mut self, index: usize, value: u16, access: Access) -> Step
+    /// The same after an access.
+    pub(crate) fn touch(&mut self, index: usize, value: u16, access: Access) -> Step
         ensures new { shown self.new ≡ At self.old.position.routine index value (words_of self.old) }
         ensures touched { result ≡ step.Touch access }
     {
@@ -255,8 +217,8 @@ impl Context {
         Step::Touch(access)
     }
 
-    // The word on top, if it is a value.
-    fn value_on_top(&self) -> Option<u16>
+    /// The word on top, if it is a value.
+    pub(crate) fn value_on_top(&self) -> Option<u16>
         ensures { result ≡ value_on_top (words_of self.now) }
     {
         match self.words.last() {
@@ -277,8 +239,8 @@ impl Context {
         }
     }
 
-    // `count` words go from the top.
-    fn remove(&mut self, count: usize)
+    /// `count` words go from the top.
+    pub(crate) fn remove(&mut self, count: usize)
         ensures words { words_of self.new ≡ drop count (words_of self.old) }
         ensures position { self.new.position ≡ self.old.position }
         ensures accumulator { self.new.accumulator ≡ self.old.accumulator }
@@ -372,6 +334,26 @@ impl Context {
                 let value = self.accumulator;
                 let access = Access::Write(width, place, width.low(u32::from(value)));
                 Ok(self.touch(next, value, access))
+            }
+        }
+    }
+
+    // A constant is written where there may be no place, and the accumulator gets it.
+    fn store_constant(
+        &mut self,
+        next: usize,
+        width: Width,
+        place: Option<Place>,
+        constant: u16,
+        answer: u16,
+    ) -> Result<Step, Stop>
+        ensures { Does (stored width (option_map where_of place) constant (At self.old.position.routine next constant (words_of self.old))) answer self.old self.new result }
+    {
+        match place {
+            None => Err(Stop::Bad),
+            Some(place) => {
+                let access = Access::Write(width, place, width.low(u32::from(constant)));
+                Ok(self.touch(next, constant, access))
             }
         }
     }
@@ -543,8 +525,8 @@ impl Context {
         }
     }
 
-    // On at the next instruction where a relation stands, else at the target.
-    fn branch(&mut self, holds: bool, next: usize, target: usize) -> Step
+    /// On at the next instruction where a relation stands, else at the target.
+    pub(crate) fn branch(&mut self, holds: bool, next: usize, target: usize) -> Step
         ensures new { shown self.new ≡ At self.old.position.routine (if holds then next else target) self.old.accumulator (words_of self.old) }
         ensures silent { result ≡ step.Silent }
     {
@@ -587,164 +569,40 @@ impl Context {
             Test::Low(relation, right) => {
                 self.jump_low(ram_objects, relation, right, next, target, answer)
             }
+            Test::Named(relation, width, place, right) => {
+                let found = ram_objects.reached(width, place, 0);
+                self.jump_named(relation, width, found, right, next, target, answer)
+            }
+            Test::OddNamed(place) => {
+                let Some(place) = ram_objects.reached(Width::Byte, place, 0) else {
+                    return Err(Stop::Bad);
+                };
+                self.branch(answer % 2 == 1, next, target);
+                Ok(Step::Touch(Access::Read(Width::Byte, place)))
+            }
         }
     }
 
-    // To the target unless low bytes stand in a relation.
-    fn jump_low(
+    // To the target unless what is read where there may be no place stands in a relation to a constant.
+    fn jump_named(
         &mut self,
-        ram_objects: RamObjects<'_>,
         relation: Relation,
-        right: Right,
+        width: Width,
+        place: Option<Place>,
+        right: u16,
         next: usize,
         target: usize,
         answer: u16,
     ) -> Result<Step, Stop>
-        ensures { Does (jumped_low ram_objects.entry.offsets.now ram_objects.entry.sizes.now relation right self.old.position.routine next target self.old.accumulator (words_of self.old)) answer self.old self.new result }
+        ensures { Does (loaded width (option_map where_of place) (λ v. At self.old.position.routine (if stands relation v (low width right) then next else target) self.old.accumulator (words_of self.old))) answer self.old self.new result }
     {
-        let value = self.accumulator;
-        match right {
-            Right::Constant(right) => {
-                let holds = relation.stands(value % 256, right % 256);
-                Ok(self.branch(holds, next, target))
-            }
-            Right::Plain(place) => {
-                let Some(place) = ram_objects.reached(Width::Byte, place, 0) else {
-                    return Err(Stop::Bad);
-                };
-                self.branch(relation.stands(value % 256, answer % 256), next, target);
-                Ok(Step::Touch(Access::Read(Width::Byte, place)))
-            }
-            Right::Top => {
-                let Some(left) = self.value_on_top() else {
-                    return Err(Stop::Bad);
-                };
-                self.remove(1);
-                Ok(self.branch(relation.stands(left % 256, value % 256), next, target))
-            }
-        }
-    }
-
-    // The low byte gets what is read where there may be no place.
-    fn load_low(
-        &mut self,
-        next: usize,
-        high: High,
-        place: Option<Place>,
-        answer: u16,
-    ) -> Result<Step, Stop>
-        ensures { Does (loaded widths.Byte (option_map where_of place) (λ v. At self.old.position.routine next (settled high self.old.accumulator v) (words_of self.old))) answer self.old self.new result }
-    {
-        match place {
-            None => Err(Stop::Bad),
-            Some(place) => {
-                let value = high.settled(self.accumulator, (answer % 256) as u8);
-                Ok(self.touch(next, value, Access::Read(Width::Byte, place)))
-            }
-        }
-    }
-
-    // It gets what is read from a port.
-    fn receive_low(&mut self, next: usize, high: High, port: u16, answer: u16) -> Result<Step, Stop>
-        ensures { Does (Touch (Input widths.Byte port) (λ v. At self.old.position.routine next (settled high self.old.accumulator v) (words_of self.old))) answer self.old self.new result }
-    {
-        let value = high.settled(self.accumulator, (answer % 256) as u8);
-        Ok(self.touch(next, value, Access::Input(Width::Byte, port)))
-    }
-
-    // It gets the value of operands.
-    fn apply_low(
-        &mut self,
-        ram_objects: RamObjects<'_>,
-        next: usize,
-        operation: Direct,
-        right: Right,
-        high: High,
-        answer: u16,
-    ) -> Result<Step, Stop>
-        ensures { Does (by_right ram_objects.entry.offsets.now ram_objects.entry.sizes.now operation right high self.old.position.routine next self.old.accumulator (words_of self.old)) answer self.old self.new result }
-    {
-        let value = self.accumulator;
-        match right {
-            Right::Constant(right) => {
-                let result = operation.value((value % 256) as u8, (right % 256) as u8);
-                Ok(self.go_on(next, high.settled(value, result)))
-            }
-            Right::Plain(place) => {
-                let Some(place) = ram_objects.reached(Width::Byte, place, 0) else {
-                    return Err(Stop::Bad);
-                };
-                let result = operation.value((value % 256) as u8, (answer % 256) as u8);
-                let access = Access::Read(Width::Byte, place);
-                Ok(self.touch(next, high.settled(value, result), access))
-            }
-            Right::Top => {
-                let Some(left) = self.value_on_top() else {
-                    return Err(Stop::Bad);
-                };
-                self.remove(1);
-                let result = operation.value((left % 256) as u8, (value % 256) as u8);
-                Ok(self.go_on(next, high.settled(left, result)))
-            }
-        }
-    }
-
-    // Those on the low byte.
-    fn make_low(
-        &mut self,
-        ram_objects: RamObjects<'_>,
-        low: LowByte,
-        high: High,
-        next: usize,
-        answer: u16,
-    ) -> Result<Step, Stop>
-        ensures { Does (run_low ram_objects.entry.offsets.now ram_objects.entry.sizes.now low high self.old.position.routine next self.old.accumulator (words_of self.old)) answer self.old self.new result }
-    {
-        let value = self.accumulator;
-        match low {
-            LowByte::Constant(constant) => {
-                Ok(self.go_on(next, high.settled(value, (constant % 256) as u8)))
-            }
-            LowByte::Load(place) => {
-                self.load_low(
-                    next,
-                    high,
-                    ram_objects.reached(Width::Byte, place, 0),
-                    answer,
-                )
-            }
-            LowByte::LoadAt(place) => {
-                let found = ram_objects.reached(Width::Byte, place, value);
-                self.load_low(next, high, found, answer)
-            }
-            LowByte::LoadThere => {
-                self.load_low(next, high, ram_objects.held(Width::Byte, value), answer)
-            }
-            LowByte::Receive => self.receive_low(next, high, value, answer),
-            LowByte::ReceiveFrom(port) => self.receive_low(next, high, port, answer),
-            LowByte::High => Ok(self.go_on(next, high.settled(value, (value / 256) as u8))),
-            LowByte::Operate(operation, right) => {
-                self.apply_low(ram_objects, next, operation, right, high, answer)
-            }
-        }
-    }
-
-    // The access that is made for a low byte.
-    fn access_low(&self, ram_objects: RamObjects<'_>, low: LowByte) -> Option<Access>
-        ensures { (high : High) (next : ℕ) → option_map access_of result ≡ access_in (run_low ram_objects.entry.offsets.now ram_objects.entry.sizes.now low high self.now.position.routine next self.now.accumulator (words_of self.now)) }
-    {
-        let value = self.accumulator;
-        match low {
-            LowByte::Load(place) => read(Width::Byte, ram_objects.reached(Width::Byte, place, 0)),
-            LowByte::LoadAt(place) => {
-                read(Width::Byte, ram_objects.reached(Width::Byte, place, value))
-            }
-            LowByte::LoadThere => read(Width::Byte, ram_objects.held(Width::Byte, value)),
-            LowByte::Receive => Some(Access::Input(Width::Byte, value)),
-            LowByte::ReceiveFrom(port) => Some(Access::Input(Width::Byte, port)),
-            LowByte::Operate(_, right) => right.read(ram_objects),
-            LowByte::Constant(_) | LowByte::High => None,
-        }
+        let Some(place) = place else {
+            return Err(Stop::Bad);
+        };
+        let left = width.low(u32::from(answer));
+        let holds = relation.stands(left, width.low(u32::from(right)));
+        self.branch(holds, next, target);
+        Ok(Step::Touch(Access::Read(width, place)))
     }
 
     // A step is added, and the sum written where there may be no place; to the target unless it is below the step.
@@ -821,6 +679,9 @@ impl Context {
             ),
             Instruction::StoreTop(width, place) => {
                 self.written_top(width, ram_objects.reached(width, place, 0))
+            }
+            Instruction::StoreConstantAt(width, place, constant) => {
+                written(width, ram_objects.reached(width, place, value), constant)
             }
             Instruction::Send(width) => match self.value_on_top() {
                 None => None,
@@ -944,6 +805,13 @@ impl Context {
             Instruction::StoreTop(width, place) => {
                 self.store_below(next, width, ram_objects.reached(width, place, 0), answer)
             }
+            Instruction::StoreConstantAt(width, place, constant) => self.store_constant(
+                next,
+                width,
+                ram_objects.reached(width, place, value),
+                constant,
+                answer,
+            ),
             Instruction::Send(width) => self.send(next, width, answer),
             Instruction::SendTo(width, port) => self.send_to(next, width, port, answer),
             Instruction::Receive(width) => self.receive(next, width, value, answer),

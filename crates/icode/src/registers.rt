@@ -176,6 +176,7 @@ fn of_test(test: Test) -> Registers
         Test::Low(_, Right::Top) => RIGHT,
         Test::Low(_, Right::Constant(_)) | Test::Low(_, Right::Plain(_)) => NONE,
         Test::Odd | Test::Constant(_, _) | Test::Plain(_, Width::Word, _) => NONE,
+        Test::Named(_, _, _, _) | Test::OddNamed(_) => NONE,
     }
 }
 
@@ -221,7 +222,8 @@ impl Instruction {
             Instruction::LoadAt(_, _)
             | Instruction::LoadThere(_)
             | Instruction::StoreAt(_, _)
-            | Instruction::StoreThere(_) => ACCUMULATOR.joined(ADDRESS),
+            | Instruction::StoreThere(_)
+            | Instruction::StoreConstantAt(_, _, _) => ACCUMULATOR.joined(ADDRESS),
             Instruction::StoreTop(_, _) => RIGHT,
             Instruction::Pick(_) => ACCUMULATOR.joined(FRAME),
             Instruction::Drop(count) => of_drop(count),

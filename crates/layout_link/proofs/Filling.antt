@@ -1,5 +1,5 @@
 -- Filling in the words of a part.
-use Rattle.std.proofs.Common.{◌≡◌, ℕ, suc, ◌+◌, ◌%◌, ◌/◌, ◌<◌, List, [], ◌∷◌, ◌++◌, length, get_or, set, refl, sym, ap, ap₂, ◌∙◌, subst, arith, append_assoc, length-append}
+use Rattle.std.proofs.Common.{◌≡◌, ℕ, suc, ◌+◌, ◌-◌, ◌%◌, ◌/◌, ◌<◌, List, [], ◌∷◌, ◌++◌, length, get_or, set, refl, sym, ap, ap₂, ◌∙◌, subst, arith, append_assoc, length-append}
 use Rattle.std.specs.Prelude.{nat_lt, if◌then◌else◌, true}
 use Rattle.std.proofs.lemmas.Bool.{lt-ltb}
 use Rattle.std.proofs.Math.Seq.{get_or-append_seam, get_or-append-add}
@@ -10,12 +10,12 @@ use Rattle.select.specs.declared.part.Kind.TheVariants.{Case}
 use Rattle.select.specs.declared.part.Fixup.{Fixup}
 use Rattle.select.specs.declared.part.Step.{Step}
 use Rattle.select.specs.declared.part.Step.TheVariants.{Plain, Refer, AtStep, Word, Goto, GotoIf}
-use Rattle.i86_code.specs.Open.{front_of, IsOpen}
+use Rattle.i86_code.specs.Open.{front_of, back_of, open_bytes, IsOpen}
 use Rattle.i86_table.specs.Open.{closed}
 use Rattle.select.specs.Parts.{target_of, fixup, IsSpelt, AreSpelt}
 use Rattle.layout_link.specs.Rom.{word_in}
 use Rattle.layout_link.specs.Inner.Words.{with_word, value_of, filled_one, filled}
-use Rattle.select.specs.Linked.{value_at}
+use Rattle.select.specs.Linked.{value_at, word_end}
 use Rattle.layout_link.specs.Inner.Linked.{IsLinked, AreLinked}
 
 -- ---- a word among other bytes
@@ -31,6 +31,10 @@ word_is a m z =
     let high : get_or (a ++ bytes) (length a + 1) 0 ≡ m / 256 = get_or-append-add a bytes 1 0 in
     omega (arith, low, high)
 
+word_ends : (behind : List ℕ) (there : ℕ) → word_end behind there ≡ there - length behind
+word_ends [] there = omega arith
+word_ends (b ∷ bs) there = omega (arith, word_ends bs there)
+
 module _ (offsets places : List ℕ) (base : ℕ) where
   -- one word, after these bytes
   one_filled : (a : List ℕ) (m : ℕ) (z : List ℕ) (f : Fixup) → f.place ≡ length a → filled_one offsets places base (a ++ (word_bytes m ++ z)) f ≡ a ++ (word_bytes ((m + value_of offsets places base f) % 65536) ++ z)
@@ -45,20 +49,20 @@ module _ (offsets places : List ℕ) (base : ℕ) where
       ∙ ap (λ m'. with_word whole (length a) ((m' + v) % 65536)) (word_is a m z)
       ∙ put_both a (m % 256) (m / 256) z (((m + v) % 65536) % 256) (((m + v) % 65536) / 256)
 
-  -- one word at the end of the bytes of a step
-  step_filled : (before front : List ℕ) (m : ℕ) (after : List ℕ) (kind : Kind) (name there : ℕ) → length before + length (front ++ word_bytes m) ≡ there
-      → filled_one offsets places base (before ++ ((front ++ word_bytes m) ++ after)) (fixup (length before + length front) kind name)
-      ≡ before ++ ((front ++ word_bytes ((m + value_at offsets places kind name (base + there)) % 65536)) ++ after)
-  step_filled before front m after kind name there ends =
+  -- one word among the bytes of a step
+  step_filled : (before front : List ℕ) (m : ℕ) (back after : List ℕ) (kind : Kind) (name there : ℕ) → length before + length (front ++ (word_bytes m ++ back)) ≡ there
+      → filled_one offsets places base (before ++ ((front ++ (word_bytes m ++ back)) ++ after)) (fixup (length before + length front) kind name)
+      ≡ before ++ ((front ++ (word_bytes ((m + value_at offsets places kind name (word_end back (base + there))) % 65536) ++ back)) ++ after)
+  step_filled before front m back after kind name there ends =
       let f = fixup (length before + length front) kind name in
       let n = (m + value_of offsets places base f) % 65536 in
       let a = before ++ front in
       let at : length before + length front ≡ length a = sym (length-append before front) in
-      let size : length (front ++ word_bytes m) ≡ length front + 2 = length-append front (word_bytes m) in
-      let behind : base + (length before + length front) + 2 ≡ base + there = omega (arith, size, ends) in
-      let regroup : (w : ℕ) → before ++ ((front ++ word_bytes w) ++ after) ≡ a ++ (word_bytes w ++ after) = λ w. grouped before front (word_bytes w) after in
-      ap (λ l. filled_one offsets places base l f) (regroup m) ∙ one_filled a m after f at ∙ sym (regroup n)
-      ∙ ap (λ x. before ++ ((front ++ word_bytes ((m + value_at offsets places kind name x) % 65536)) ++ after)) behind
+      let size : length (front ++ (word_bytes m ++ back)) ≡ length front + suc (suc (length back)) = length-append front (word_bytes m ++ back) in
+      let behind : base + (length before + length front) + 2 ≡ word_end back (base + there) = omega (arith, size, ends, word_ends back (base + there)) in
+      let regroup : (w : ℕ) → before ++ ((front ++ (word_bytes w ++ back)) ++ after) ≡ a ++ (word_bytes w ++ (back ++ after)) = λ w. grouped before front (word_bytes w ++ back) after in
+      ap (λ l. filled_one offsets places base l f) (regroup m) ∙ one_filled a m (back ++ after) f at ∙ sym (regroup n)
+      ∙ ap (λ x. before ++ ((front ++ (word_bytes ((m + value_at offsets places kind name x) % 65536) ++ back)) ++ after)) behind
     where
       grouped : (a b c d : List ℕ) → a ++ ((b ++ c) ++ d) ≡ (a ++ b) ++ (c ++ d)
       grouped a b c d = ap (λ l. a ++ l) (append_assoc b c d) ∙ sym (append_assoc a b (c ++ d))
@@ -77,22 +81,22 @@ module _ (offsets places : List ℕ) (base : ℕ) where
   unchanged : (own here there to : ℕ) (x : Step) (before b after : List ℕ) (f : List Fixup) → f ≡ [] → IsLinked offsets places base own here there to x b → Became own here there to x before b after f
   unchanged own here there to x before b after f e l = record { now = b; long = refl; linked = l; whole = ap (filled offsets places base (before ++ (b ++ after))) e }
 
-  refer : (own here there to : ℕ) (x : Step) (y : Open) (m : ℕ) (kind : Kind) (name : ℕ) (before b after : List ℕ) (f : List Fixup) → IsOpen y → b ≡ front_of y ++ word_bytes m → f ≡ fixup (here + length (front_of y)) kind name ∷ []
+  refer : (own here there to : ℕ) (x : Step) (y : Open) (m : ℕ) (kind : Kind) (name : ℕ) (before b after : List ℕ) (f : List Fixup) → IsOpen y → b ≡ open_bytes y m → f ≡ fixup (here + length (front_of y)) kind name ∷ []
       → length before ≡ here → here + length b ≡ there
-      → ((now : List ℕ) → Spells now (closed y ((m + value_at offsets places kind name (base + there)) % 65536)) → IsLinked offsets places base own here there to x now)
+      → ((now : List ℕ) → Spells now (closed y ((m + value_at offsets places kind name (word_end (back_of y) (base + there))) % 65536)) → IsLinked offsets places base own here there to x now)
       → Became own here there to x before b after f
   refer own here there to x y m kind name before b after f good e g at ends linked =
-      let v = (m + value_at offsets places kind name (base + there)) % 65536 in
-      let ends' : length before + length (front_of y ++ word_bytes m) ≡ there = let p = ap length e in omega (arith, at, ends, p) in
-      let s1 = length-append (front_of y) (word_bytes m) in
-      let s2 = length-append (front_of y) (word_bytes v) in
+      let v = (m + value_at offsets places kind name (word_end (back_of y) (base + there))) % 65536 in
+      let ends' : length before + length (open_bytes y m) ≡ there = let p = ap length e in omega (arith, at, ends, p) in
+      let s1 = length-append (front_of y) (word_bytes m ++ back_of y) in
+      let s2 = length-append (front_of y) (word_bytes v ++ back_of y) in
       let p = ap length e in
       let f_is : f ≡ fixup (length before + length (front_of y)) kind name ∷ [] = g ∙ ap (λ n. fixup (n + length (front_of y)) kind name ∷ []) (sym at) in
       record {
-        now = front_of y ++ word_bytes v;
+        now = open_bytes y v;
         long = omega (arith, s1, s2, p);
-        linked = linked (front_of y ++ word_bytes v) (good v (omega arith));
-        whole = ap₂ (λ l fs. filled offsets places base (before ++ (l ++ after)) fs) e f_is ∙ step_filled before (front_of y) m after kind name there ends';
+        linked = linked (open_bytes y v) (good v (omega arith));
+        whole = ap₂ (λ l fs. filled offsets places base (before ++ (l ++ after)) fs) e f_is ∙ step_filled before (front_of y) m (back_of y) after kind name there ends';
       }
 
   became : (own here there to : ℕ) (x : Step) (before b after : List ℕ) (f : List Fixup) → length before ≡ here → here + length b ≡ there → IsSpelt own here there to x b f → Became own here there to x before b after f
@@ -101,13 +105,13 @@ module _ (offsets places : List ℕ) (base : ℕ) where
   became own here there to (AtStep y t) before b after f at ends h = refer own here there to (AtStep y t) y (to % 65536) Case own before b after f h.0 h.1 h.2 at ends (λ now s. s)
   became own here there to (Word t) before b after f at ends h =
       let v = (to % 65536 + get_or places own 0) % 65536 in
-      let ends' : length before + length ([] ++ word_bytes (to % 65536)) ≡ there = let p = ap length h.0 in omega (arith, at, ends, p) in
+      let ends' : length before + length ([] ++ (word_bytes (to % 65536) ++ [])) ≡ there = let p = ap length h.0 in omega (arith, at, ends, p) in
       let z : here ≡ length before + length {A = ℕ} [] = omega (arith, at) in
       record {
         now = word_bytes v;
         long = sym (ap length h.0);
         linked = refl;
-        whole = ap₂ (λ l fs. filled offsets places base (before ++ (l ++ after)) fs) h.0 (h.1 ∙ ap (λ n. fixup n Case own ∷ []) z) ∙ step_filled before [] (to % 65536) after Case own there ends';
+        whole = ap₂ (λ l fs. filled offsets places base (before ++ (l ++ after)) fs) h.0 (h.1 ∙ ap (λ n. fixup n Case own ∷ []) z) ∙ step_filled before [] (to % 65536) [] after Case own there ends';
       }
   became own here there to (Goto t) before b after f at ends h = unchanged own here there to (Goto t) before b after f h.0 h.1
   became own here there to (GotoIf c t) before b after f at ends h = unchanged own here there to (GotoIf c t) before b after f h.0 h.1

@@ -46,6 +46,7 @@ fn called(instruction: Instruction) -> Option<usize> {
         | Instruction::StoreAt(_, _)
         | Instruction::StoreThere(_)
         | Instruction::StoreTop(_, _)
+        | Instruction::StoreConstantAt(_, _, _)
         | Instruction::Send(_)
         | Instruction::SendTo(_, _)
         | Instruction::Receive(_)

@@ -1,5 +1,5 @@
 -- The code of an expression is as it has to be, wherever it stands.
-use Rattle.std.proofs.Common.{◌≡◌, ℕ, zero, suc, ◌+◌, ◌-◌, ◌%◌, ◌<◌, Bool, true, false, List, [], ◌∷◌, ◌++◌, Option, Some, None, refl, arith, slice_get}
+use Rattle.std.proofs.Common.{◌≡◌, ℕ, zero, suc, ◌+◌, ◌-◌, ◌%◌, ◌<◌, Bool, true, false, List, [], ◌∷◌, ◌++◌, Option, Some, None, refl, subst, ◌∙◌, arith, slice_get}
 use Rattle.std.specs.Prelude.{cond, nat_eq}
 use Rattle.word86.specs.declared.width.Width.{Width}
 use Rattle.word86.specs.declared.width.Width.TheVariants as widths
@@ -18,15 +18,20 @@ use Rattle.icode.specs.declared.instruction.Right.TheVariants as rights
 use Rattle.icode.specs.declared.instruction.Direct.{Direct}
 use Rattle.icode.specs.declared.instruction.Direct.TheVariants as directs
 use Rattle.icode.specs.declared.instruction.Relation.{Relation}
+use Rattle.icode.specs.declared.instruction.Test.{Test}
 use Rattle.icode.specs.Heights.{popped, behind}
 use Rattle.icode.specs.Made.{asked_constant}
 use Rattle.lower.specs.Expressions.{leads_to, by_offset, folded, unless_known, number_of, Operand, Number, Name, Computed, operand_of, anchor_place, beside, operation, scaled, moved, based, reading, locating, writing, receiving, sending, passing, alone, count_of, relation_of, stands_to, gives, used, expression_code, first_code, pushed_code, subscripts_code, further_code, target_code, calling, dropped_code, targets_code, stored_in, argument_code, second_passed, pair, second_code, place_of}
 use Rattle.lower.specs.LowBytes.{low_top, low_constant, low_operation, low_reading, low_receiving, low_code, is_one_step, direct_of, by_operator, takes_byte, take_bytes, given_code, unless_low_known, operand_code, low_changing, returned_code}
-use Rattle.lower.specs.Conditions.{low_stands_to, related, are_bytes, asked, test_of, compared, asking, condition_code}
+use Rattle.lower.specs.Statements.{index_read}
+use Rattle.lower.specs.Conditions.{low_stands_to, related, are_bytes, named, or_test, unless_named, compared_by, asked, test_of, compared, asking, comparison_code, condition_code}
 use Rattle.lower.specs.Well.{IsExpression, AreExpressions, AreSubscripts, IsTarget, AreTargets}
+use Rattle.lower.specs.Inner.Assignments.{assigned_code}
 use Rattle.lower.proofs.Folds.{folded_small}
-use Rattle.lower.proofs.Heights.{Keeps, keeps_then, scaled_keeps, based_keeps, argument_keeps, alone_keeps, pair_keeps, passing_keeps, call_keeps, first_keeps, second_keep, expression_keeps, subscripts_keep, target_keeps, pushed_up, low_keeps}
-use Rattle.lower.proofs.Fits.{IsWord, Calm, calm_then}
+use Rattle.lower.proofs.Heights.{Keeps, keeps_then, scaled_keeps, based_keeps, argument_keeps, alone_keeps, pair_keeps, passing_keeps, call_keeps, first_keeps, second_keep, expression_keeps, subscripts_keep, target_keeps, pushed_up, low_keeps, given_keeps}
+use Rattle.lower.proofs.Fits.{IsWord, Calm, calm_then, index_calm, index_up}
+use Rattle.lower.proofs.InPlace.{by_named}
+use Rattle.lower.proofs.Stores.{assigned}
 
 module _ (MayCall : ℕ → Type 0) (Enables Finishes : Type 0) (Spot : ℕ → Type 0) where
   abbrev C : ℕ → List Instruction → Type 0
@@ -359,10 +364,22 @@ module _ (MayCall : ℕ → Type 0) (Enables Finishes : Type 0) (Spot : ℕ → 
     pub given_calm : (ts : Targets) (e : Expression) → IsExpression sizes procedures MayCall e → (h : ℕ) → C h (given_code procedures ts e)
     given_calm ts e good h = either_calm (take_bytes ts) (low_code procedures e) (expression_code procedures e) h (low_calm e good h) (expression_calm e good h)
 
+    pub assigned_calm : (ts : Targets) (e : Expression) → AreTargets sizes procedures MayCall ts → IsExpression sizes procedures MayCall e → (h : ℕ) → C h (assigned_code procedures ts e)
+    assigned_calm ts e gt ge h =
+        assigned procedures (λ ts code. AreTargets sizes procedures MayCall ts → C h code) ts e
+        (λ k is w m l anchor fixed offset stride f more good.
+        let ss = Subscript stride f more in
+        both h (subscripts_code procedures ss) (op.StoreConstantAt w (anchor_place anchor offset) k ∷ []) (subscripts_calm ss 2 good.1 h) (subscripts_keep procedures ss) (λ p. (folded_small sizes procedures MayCall e ge k is, tt)))
+        (λ good. both h (given_code procedures ts e) (targets_code procedures ts) (given_calm ts e ge h) (given_keeps procedures ts e) (targets_calm ts good h)) gt
+
     -- ---- conditions
 
-    asking_calm : (r : Option Relation) (comparison value : List Instruction) → C 0 comparison → C 0 value → C 0 (asking r comparison value)
-    asking_calm (Some o) comparison value f g = f
+    unless_calm : (z : Option Test) (code : List Instruction) → C 0 code → C 0 (unless_named z code)
+    unless_calm (Some t) code f = λ p. tt
+    unless_calm None code f = f
+
+    asking_calm : (r : Option Relation) (comparison : Relation → List Instruction) (value : List Instruction) → ((o : Relation) → C 0 (comparison o)) → C 0 value → C 0 (asking r comparison value)
+    asking_calm (Some o) comparison value f g = f o
     asking_calm None comparison value f g = g
 
     compared_calm : (bytes : Bool) (low whole : List Instruction) → C 0 low → C 0 whole → C 0 (compared bytes low whole)
@@ -373,13 +390,15 @@ module _ (MayCall : ℕ → Type 0) (Enables Finishes : Type 0) (Spot : ℕ → 
     condition_calm (Binary m l o w a b) good =
         let low = low_code procedures a ++ beside (operand_of b) (low_code procedures b) in
         let whole = expression_code procedures a ++ beside (operand_of b) (expression_code procedures b) in
-        asking_calm (relation_of o) (compared (are_bytes a b) low whole) (low_code procedures (Binary m l o w a b))
+        asking_calm (relation_of o) (λ q. unless_named (named (are_bytes a b) q (operand_of a) (operand_of b)) (comparison_code procedures a b)) (low_code procedures (Binary m l o w a b))
+        (λ q. unless_calm (named (are_bytes a b) q (operand_of a) (operand_of b)) (comparison_code procedures a b)
         (compared_calm (are_bytes a b) low whole
         (both 0 (low_code procedures a) (beside (operand_of b) (low_code procedures b)) (low_calm a good.0 0) (low_keeps procedures a) (beside_calm (operand_of b) (low_code procedures b) (low_calm b good.1) 0))
-        (both 0 (expression_code procedures a) (beside (operand_of b) (expression_code procedures b)) (expression_calm a good.0 0) (expression_keeps procedures a) (beside_calm (operand_of b) (expression_code procedures b) (expression_calm b good.1) 0)))
+        (both 0 (expression_code procedures a) (beside (operand_of b) (expression_code procedures b)) (expression_calm a good.0 0) (expression_keeps procedures a) (beside_calm (operand_of b) (expression_code procedures b) (expression_calm b good.1) 0))))
         (low_calm (Binary m l o w a b) good 0)
     condition_calm (Constant k) good = low_calm (Constant k) good 0
-    condition_calm (Plain w x) good = low_calm (Plain w x) good 0
+    condition_calm (Plain widths.Byte x) good = λ p. tt
+    condition_calm (Plain widths.Word x) good = low_calm (Plain widths.Word x) good 0
     condition_calm (Variable w r) good = low_calm (Variable w r) good 0
     condition_calm (Location r) good = low_calm (Location r) good 0
     condition_calm (Unary o w e) good = low_calm (Unary o w e) good 0
@@ -401,21 +420,32 @@ module _ (MayCall : ℕ → Type 0) (Enables Finishes : Type 0) (Spot : ℕ → 
     related_word true o (Name read x) lt = omega arith
     related_word true o Computed lt = omega arith
 
-    asked_word : (r : Option Relation) (bytes : Bool) (right : Operand) → IsWord right → asked_constant (asked r bytes right) < 65536
-    asked_word (Some o) bytes right lt = related_word bytes o right lt
-    asked_word None bytes right lt = omega arith
+    compared_word : (bytes : Bool) (o : Relation) (left right : Operand) → IsWord right → asked_constant (compared_by bytes o left right) < 65536
+    compared_word bytes o left right lt = by_named (λ z. asked_constant (or_test z (related bytes o right)) < 65536) bytes o left right (related_word bytes o right lt) (λ w y k is number suits. subst IsWord number lt)
 
-    pub bound_word : (bytes : Bool) (o : Relation) (e : Expression) → IsExpression sizes procedures MayCall e → asked_constant (related bytes o (operand_of e)) < 65536
-    bound_word bytes o e good = related_word bytes o (operand_of e) (operand_word e good)
+    asked_word : (r : Option Relation) (bytes : Bool) (left right : Operand) → IsWord right → asked_constant (asked r bytes left right) < 65536
+    asked_word (Some o) bytes left right lt = compared_word bytes o left right lt
+    asked_word None bytes left right lt = omega arith
 
-    pub bound_calm : (bytes : Bool) (e : Expression) → IsExpression sizes procedures MayCall e → C 0 (compared bytes (beside (operand_of e) (low_code procedures e)) (beside (operand_of e) (expression_code procedures e)))
-    bound_calm true e good = beside_calm (operand_of e) (low_code procedures e) (low_calm e good) 0
-    bound_calm false e good = beside_calm (operand_of e) (expression_code procedures e) (expression_calm e good) 0
+    pub bound_word : (bytes : Bool) (o : Relation) (index : Operand) (e : Expression) → IsExpression sizes procedures MayCall e → asked_constant (compared_by bytes o index (operand_of e)) < 65536
+    bound_word bytes o index e good = compared_word bytes o index (operand_of e) (operand_word e good)
+
+    beside_bound_calm : (bytes : Bool) (e : Expression) → IsExpression sizes procedures MayCall e → C 0 (compared bytes (beside (operand_of e) (low_code procedures e)) (beside (operand_of e) (expression_code procedures e)))
+    beside_bound_calm true e good = beside_calm (operand_of e) (low_code procedures e) (low_calm e good) 0
+    beside_bound_calm false e good = beside_calm (operand_of e) (expression_code procedures e) (expression_calm e good) 0
+
+    -- what is computed before the test of a bound
+    pub bound_calm : (z : Option Test) (bytes : Bool) (x : Scalar) (e : Expression) → IsExpression sizes procedures MayCall e
+        → C 0 (unless_named z (index_read bytes x ∷ compared bytes (beside (operand_of e) (low_code procedures e)) (beside (operand_of e) (expression_code procedures e))))
+    bound_calm z bytes x e good =
+        let comparison = compared bytes (beside (operand_of e) (low_code procedures e)) (beside (operand_of e) (expression_code procedures e)) in
+        unless_calm z (index_read bytes x ∷ comparison) (index_calm MayCall Enables Finishes Spot bytes x comparison (beside_bound_calm bytes e good))
 
     pub test_word : (e : Expression) → IsExpression sizes procedures MayCall e → asked_constant (test_of e) < 65536
-    test_word (Binary m l o w a b) good = asked_word (relation_of o) (are_bytes a b) (operand_of b) (operand_word b good.1)
+    test_word (Binary m l o w a b) good = asked_word (relation_of o) (are_bytes a b) (operand_of a) (operand_of b) (operand_word b good.1)
     test_word (Constant k) good = omega arith
-    test_word (Plain w x) good = omega arith
+    test_word (Plain widths.Byte x) good = omega arith
+    test_word (Plain widths.Word x) good = omega arith
     test_word (Variable w r) good = omega arith
     test_word (Location r) good = omega arith
     test_word (Unary o w e) good = omega arith
@@ -437,9 +467,17 @@ low_beside_up o (Number k) code f = refl
 low_beside_up o (Name read x) code f = refl
 low_beside_up o Computed code f = f 1
 
-pub compared_up : (bytes : Bool) (o : Relation) (right : Operand) (low whole : List Instruction) → Keeps low → Keeps whole → behind 0 (compared bytes (beside right low) (beside right whole)) ≡ popped (related bytes o right)
+compared_up : (bytes : Bool) (o : Relation) (right : Operand) (low whole : List Instruction) → Keeps low → Keeps whole → behind 0 (compared bytes (beside right low) (beside right whole)) ≡ popped (related bytes o right)
 compared_up true o right low whole f g = low_beside_up o right low f
 compared_up false o right low whole f g = beside_up o right whole g
+
+-- with the index before it, where the test does not read it
+pub bound_up : (bytes : Bool) (o : Relation) (x : Scalar) (index right : Operand) (low whole : List Instruction) → Keeps low → Keeps whole
+    → behind 0 (unless_named (named bytes o index right) (index_read bytes x ∷ compared bytes (beside right low) (beside right whole))) ≡ popped (compared_by bytes o index right)
+bound_up bytes o x index right low whole f g =
+    let comparison = compared bytes (beside right low) (beside right whole) in
+    by_named (λ z. behind 0 (unless_named z (index_read bytes x ∷ comparison)) ≡ popped (or_test z (related bytes o right))) bytes o index right
+    (index_up bytes x comparison 0 ∙ compared_up bytes o right low whole f g) (λ w y k is number suits. refl)
 
 related_up : (bytes : Bool) (o : Relation) (right : Operand) (left code whole_left whole : List Instruction) → Keeps left → Keeps code → Keeps whole_left → Keeps whole
     → behind 0 (compared bytes (left ++ beside right code) (whole_left ++ beside right whole)) ≡ popped (related bytes o right)
@@ -447,17 +485,20 @@ related_up true o right left code whole_left whole f g h w = keeps_then left (be
 related_up false o right left code whole_left whole f g h w = keeps_then whole_left (beside right whole) h 0 (popped (stands_to o right)) (beside_up o right whole w)
 
 module _ (procedures : List Procedure) where
-  asking_up : (r : Option Relation) (bytes : Bool) (right : Operand) (left code whole_left whole value : List Instruction) → Keeps left → Keeps code → Keeps whole_left → Keeps whole → Keeps value
-      → behind 0 (asking r (compared bytes (left ++ beside right code) (whole_left ++ beside right whole)) value) ≡ popped (asked r bytes right)
-  asking_up (Some o) bytes right left code whole_left whole value f g h w v = related_up bytes o right left code whole_left whole f g h w
-  asking_up None bytes right left code whole_left whole value f g h w v = v 0
+  asking_up : (r : Option Relation) (bytes : Bool) (first right : Operand) (left code whole_left whole value : List Instruction) → Keeps left → Keeps code → Keeps whole_left → Keeps whole → Keeps value
+      → behind 0 (asking r (λ o. unless_named (named bytes o first right) (compared bytes (left ++ beside right code) (whole_left ++ beside right whole))) value) ≡ popped (asked r bytes first right)
+  asking_up (Some o) bytes first right left code whole_left whole value f g h w v =
+      by_named (λ z. behind 0 (unless_named z (compared bytes (left ++ beside right code) (whole_left ++ beside right whole))) ≡ popped (or_test z (related bytes o right))) bytes o first right
+      (related_up bytes o right left code whole_left whole f g h w) (λ w y k is number suits. refl)
+  asking_up None bytes first right left code whole_left whole value f g h w v = v 0
 
   pub condition_up : (e : Expression) → behind 0 (condition_code procedures e) ≡ popped (test_of e)
   condition_up (Binary m l o w a b) =
-      asking_up (relation_of o) (are_bytes a b) (operand_of b) (low_code procedures a) (low_code procedures b) (expression_code procedures a) (expression_code procedures b) (low_code procedures (Binary m l o w a b))
+      asking_up (relation_of o) (are_bytes a b) (operand_of a) (operand_of b) (low_code procedures a) (low_code procedures b) (expression_code procedures a) (expression_code procedures b) (low_code procedures (Binary m l o w a b))
       (low_keeps procedures a) (low_keeps procedures b) (expression_keeps procedures a) (expression_keeps procedures b) (low_keeps procedures (Binary m l o w a b))
   condition_up (Constant k) = low_keeps procedures (Constant k) 0
-  condition_up (Plain w x) = low_keeps procedures (Plain w x) 0
+  condition_up (Plain widths.Byte x) = refl
+  condition_up (Plain widths.Word x) = low_keeps procedures (Plain widths.Word x) 0
   condition_up (Variable w r) = low_keeps procedures (Variable w r) 0
   condition_up (Location r) = low_keeps procedures (Location r) 0
   condition_up (Unary o w e) = low_keeps procedures (Unary o w e) 0

@@ -83,10 +83,6 @@ pub index_up : (bytes : Bool) (x : Scalar) (more : List Instruction) (h : ℕ) �
 index_up true x more h = refl
 index_up false x more h = refl
 
-index_after : (bytes : Bool) (x : Scalar) → after (index_read bytes x) 0 ≡ 0
-index_after true x = refl
-index_after false x = refl
-
 number_level : (o : Counting) (x : Scalar) (s before : ℕ) → behind 0 (next_by_number o x s before) ≡ 0
 number_level counting.Up x s before = load_up x.width (place_of x.place) (op.Next x.width (place_of x.place) s (before + 2) ∷ []) 0
 number_level counting.SignedUp x s before = refl
@@ -103,6 +99,7 @@ module _ (MayCall : ℕ → Type 0) (Enables Finishes : Type 0) (Spot : ℕ → 
   abbrev pub Fit : (p h : ℕ) → Instruction → List Instruction → Type 0
   Fit p h (op.Constant k) more = k < 65536
   Fit p h (op.BinaryConstant o width k) more = k < 65536
+  Fit p h (op.StoreConstantAt width x k) more = k < 65536
   Fit p h (op.Drop n) more = n ≤ h
   Fit p h (op.Ahead n) more = (h ≡ 0) × Spot (p + 1 + n)
   Fit p h (op.AheadUnless t n) more = (after (op.AheadUnless t n) h ≡ 0) × Spot (p + 1 + n) × (asked_constant t < 65536)
@@ -306,9 +303,9 @@ module _ (MayCall : ℕ → Type 0) (Enables Finishes : Type 0) (Spot : ℕ → 
   load_fits widths.Byte at q h more f = (tt, f)
   load_fits widths.Word at q h more f = (tt, f)
 
-  index_fits : (bytes : Bool) (x : Scalar) (q : ℕ) (more : List Instruction) → Fits (suc q) 0 more → Fits q 0 (index_read bytes x ∷ more)
-  index_fits true x q more f = (tt, f)
-  index_fits false x q more f = (tt, f)
+  pub index_calm : (bytes : Bool) (x : Scalar) (more : List Instruction) → Calm 0 more → Calm 0 (index_read bytes x ∷ more)
+  index_calm true x more f = λ p. (tt, f (suc p))
+  index_calm false x more f = λ p. (tt, f (suc p))
 
   number_fits : (o : Counting) (x : Scalar) (n before q : ℕ) → n < 65536 → Spot (q - before) → Fits q 0 (next_by_number o x n before)
   number_fits counting.Up x n before q lt s = load_fits x.width (place_of x.place) q 0 (op.Next x.width (place_of x.place) n (before + 2) ∷ []) ((refl, subst Spot (omega arith) s, lt), tt)
@@ -320,28 +317,26 @@ module _ (MayCall : ℕ → Type 0) (Enables Finishes : Type 0) (Spot : ℕ → 
   next_fits o x (Name read y) code before q lt k f s = fits_then q 0 0 code (add_pushed x (before + length code)) (f q) (k 0) (added_fits x (before + length code) (q + length code) (subst Spot (omega arith) s))
   next_fits o x Computed code before q lt k f s = fits_then q 0 0 code (add_pushed x (before + length code)) (f q) (k 0) (added_fits x (before + length code) (q + length code) (subst Spot (omega arith) s))
 
-  pub counted_fits : (bytes : Bool) (first compared body step : List Instruction) (o : Counting) (x : Scalar) (by : Operand) (t : Test) (exit : ℕ) → Calm 0 first → behind 0 first ≡ 0 → Calm 0 compared → behind 0 compared ≡ popped t → asked_constant t < 65536
+  pub counted_fits : (first asked body step : List Instruction) (o : Counting) (x : Scalar) (by : Operand) (t : Test) (exit : ℕ) → Calm 0 first → behind 0 first ≡ 0 → Calm 0 asked → behind 0 asked ≡ popped t → asked_constant t < 65536
       → behind 0 body ≡ 0 → Fitting 0 body → IsWord by → Keeps step → Calm 0 step
       → Fitting exit (first
-      ++ (op.Store x.width (place_of x.place) ∷ index_read bytes x
-      ∷ (compared ++ (op.AheadUnless t (length body + length (next_round o x by step (length compared + length body + 2)) + exit) ∷ (body ++ next_round o x by step (length compared + length body + 2))))))
-  counted_fits bytes first compared body step o x by t exit f fl c up word level fits lt k g p s end =
-      let again = next_round o x by step (length compared + length body + 2) in
+      ++ (op.Store x.width (place_of x.place)
+      ∷ (asked ++ (op.AheadUnless t (length body + length (next_round o x by step (length asked + length body + 1)) + exit) ∷ (body ++ next_round o x by step (length asked + length body + 1))))))
+  counted_fits first asked body step o x by t exit f fl c up word level fits lt k g p s end =
+      let again = next_round o x by step (length asked + length body + 1) in
       let n = length body + length again + exit in
       let test = op.AheadUnless t n ∷ (body ++ again) in
-      let q = suc (suc (p + length first)) in
-      let stored = op.Store x.width (place_of x.place) ∷ index_read bytes x ∷ (compared ++ test) in
+      let q = suc (p + length first) in
+      let stored = op.Store x.width (place_of x.place) ∷ (asked ++ test) in
       let lf = length-append first stored in
-      let lc = length-append compared test in
+      let lc = length-append asked test in
       let lb = length-append body again in
-      let round = spots_over p first (op.Store x.width (place_of x.place)) (index_read bytes x ∷ (compared ++ test)) fl s in
-      let begin = spots_next (suc (p + length first)) (index_read bytes x) (compared ++ test) (index_after bytes x) round in
-      let rest = spots_over q compared (op.AheadUnless t n) (body ++ again) (tested_down t n (behind 0 compared) up) begin in
-      let r = suc (q + length compared) in
+      let round = spots_over p first (op.Store x.width (place_of x.place)) (asked ++ test) fl s in
+      let rest = spots_over q asked (op.AheadUnless t n) (body ++ again) (tested_down t n (behind 0 asked) up) round in
+      let r = suc (q + length asked) in
       fits_then p 0 0 first stored (f p) fl (
         tt,
-        index_fits bytes x (suc (p + length first)) (compared ++ test)
-            (tested_fits compared (body ++ again) t n q c up word (subst Spot (omega (arith, lf, lc, lb)) end)
+        tested_fits asked (body ++ again) t n q c up word (subst Spot (omega (arith, lf, lc, lb)) end)
             (fits_then r 0 0 body again (fits r (spots_front r body again rest) (subst Spot (omega arith) (spots_first (r + length body) again (spots_back r body again level rest)))) level
-            (next_fits o x by step (length compared + length body + 2) (r + length body) lt k g (subst Spot (omega arith) (spots_first (suc (p + length first)) (index_read bytes x ∷ (compared ++ test)) round))))),
+            (next_fits o x by step (length asked + length body + 1) (r + length body) lt k g (subst Spot (omega arith) (spots_first q (asked ++ test) round)))),
       )

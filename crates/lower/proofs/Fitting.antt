@@ -1,5 +1,5 @@
 -- The code of statements is as it has to be where jumps may lead to each of its places and to its exit.
-use Rattle.std.proofs.Common.{◌≡◌, ℕ, ◌+◌, ◌⊎◌, inl, inr, Bool, true, false, ◌≤◌, List, [], ◌∷◌, ◌++◌, length, refl, sym, subst, ◌∙◌, arith, length-append, append-nil, true≢false}
+use Rattle.std.proofs.Common.{◌≡◌, ℕ, ◌+◌, ◌⊎◌, inl, inr, Bool, true, false, ◌≤◌, List, [], ◌∷◌, ◌++◌, length, refl, sym, subst, arith, length-append, append-nil, true≢false}
 use Rattle.word86.specs.declared.width.Width.{Width}
 use Rattle.word86.specs.declared.width.Width.TheVariants as widths
 use Rattle.plm_type.specs.Rest.{Expression, Loop, Count, Statement, Empty, Assign, Evaluate, Return, ReturnValue, Enabling, Disabling, Halting, If, Block, While, Case, Iterate, Leaving, Round, Comparing, Stepping, Adding, Storing, Ending, Statements, End, Then, Returned, Procedure}
@@ -7,13 +7,13 @@ use Rattle.icode.specs.declared.instruction.Instruction.{Instruction}
 use Rattle.icode.specs.declared.instruction.Instruction.TheVariants as op
 use Rattle.icode.specs.Heights.{behind}
 use Rattle.lower.specs.LowBytes.{low_code, given_code, returned_code}
-use Rattle.lower.specs.Expressions.{operand_of, place_of, beside, expression_code, targets_code}
-use Rattle.lower.specs.Conditions.{test_of, condition_code, always, compared, related}
+use Rattle.lower.specs.Expressions.{Name, operand_of, place_of, beside, expression_code, targets_code}
+use Rattle.lower.specs.Conditions.{test_of, condition_code, always, compared, named, unless_named, compared_by, related}
 use Rattle.lower.specs.Statements.{Kind, OfMain, Called, Giving, Serving, returning, narrowed, within, next_round, are_silent, over, all_of, switching, exit_before, statement_code, statements_code, cases_code, while_loop, counts_bytes, index_read, stays, all_stay}
 use Rattle.lower.specs.Well.{MayReturn, IsStatement, AreStatements}
-use Rattle.lower.proofs.Heights.{Keeps, expression_keeps, dropped_keeps, targets_keep, given_keeps, returned_keeps, low_keeps}
-use Rattle.lower.proofs.Fits.{Fits, Calm, Fitting, AreLevel, index_up, level_then, tested_level, choosing_level, switching_level, next_level, Inner, inner_front, inner_back, inner_first, forever_fits, fits_then, choosing_fits, one_then_more, while_loop_fits, switching_fits, case_fits, counted_fits, while_loop_level}
-use Rattle.lower.proofs.Calm.{expression_calm, dropped_calm, targets_calm, given_calm, operand_word, condition_calm, bound_calm, bound_word, test_word, compared_up, condition_up, returned_calm}
+use Rattle.lower.proofs.Heights.{Keeps, expression_keeps, dropped_keeps, targets_keep, given_keeps, returned_keeps, low_keeps, assigned_keeps}
+use Rattle.lower.proofs.Fits.{Fits, Calm, Fitting, AreLevel, level_then, tested_level, choosing_level, switching_level, next_level, Inner, inner_front, inner_back, inner_first, forever_fits, fits_then, choosing_fits, one_then_more, while_loop_fits, switching_fits, case_fits, counted_fits, while_loop_level, index_up}
+use Rattle.lower.proofs.Calm.{expression_calm, dropped_calm, targets_calm, given_calm, operand_word, condition_calm, bound_calm, bound_word, bound_up, test_word, condition_up, returned_calm, assigned_calm}
 use Rattle.lower.proofs.Stmts.{silents_code, stay_all_loud}
 
 -- ENABLE or HALT stands in it
@@ -57,7 +57,7 @@ module _ (procedures : List Procedure) (around : Kind) where
   mutual
     pub statement_level : (s : Statement) (exit : ℕ) → behind 0 (statement_code procedures around exit s) ≡ 0
     statement_level Empty exit = refl
-    statement_level (Assign ts e) exit = level_then (given_code procedures ts e) (targets_code procedures ts) (given_keeps procedures ts e 0) (targets_keep procedures ts 0)
+    statement_level (Assign ts e) exit = assigned_keeps procedures ts e 0
     statement_level (Evaluate e) exit = dropped_keeps procedures e 0
     statement_level Return exit = returning_level around
     statement_level (ReturnValue w e) exit = level_then (returned_code procedures w e) (narrowed w ++ op.Leave ∷ []) (returned_keeps procedures w e 0) (narrowed_keeps w 0)
@@ -74,15 +74,16 @@ module _ (procedures : List Procedure) (around : Kind) where
     statement_level (Iterate a (Count o x bound step ss)) exit =
         let bytes = counts_bytes x bound in
         let comparison = compared bytes (beside (operand_of bound) (low_code procedures bound)) (beside (operand_of bound) (expression_code procedures bound)) in
+        let index = Name x.width (place_of x.place) in
+        let asked = unless_named (named bytes (within o) index (operand_of bound)) (index_read bytes x ∷ comparison) in
         let body = statements_code procedures around 0 ss in
-        let before = length comparison + length body + 2 in
+        let before = length asked + length body + 1 in
         let again = next_round o x (operand_of step) (expression_code procedures step) before in
         let n = length body + length again + exit in
-        let t = related bytes (within o) (operand_of bound) in
-        let rest = comparison ++ (op.AheadUnless t n ∷ (body ++ again)) in
-        level_then (returned_code procedures x.width a) (op.Store x.width (place_of x.place) ∷ index_read bytes x ∷ rest) (returned_keeps procedures x.width a 0)
-        (index_up bytes x rest 0
-        ∙ tested_level comparison (body ++ again) t n (compared_up bytes (within o) (operand_of bound) (low_code procedures bound) (expression_code procedures bound) (low_keeps procedures bound) (expression_keeps procedures bound))
+        let t = compared_by bytes (within o) index (operand_of bound) in
+        let rest = asked ++ (op.AheadUnless t n ∷ (body ++ again)) in
+        level_then (returned_code procedures x.width a) (op.Store x.width (place_of x.place) ∷ rest) (returned_keeps procedures x.width a 0)
+        (tested_level asked (body ++ again) t n (bound_up bytes (within o) x index (operand_of bound) (low_code procedures bound) (expression_code procedures bound) (low_keeps procedures bound) (expression_keeps procedures bound))
         (level_then body again (statements_level ss 0) (next_level o x (operand_of step) (expression_code procedures step) before (expression_keeps procedures step))))
     statement_level Leaving exit = refl
     statement_level (Round l) exit = refl
@@ -129,9 +130,7 @@ module _ (MayCall : ℕ → Type 0) (Enables : Type 0) (Spot : ℕ → Type 0) (
   mutual
     pub statement_fits : (s : Statement) → IsStatement sizes procedures MayCall around s → (Lets s → Enables) → (exit : ℕ) → F exit (statement_code procedures around exit s)
     statement_fits Empty good lets exit = λ p s end. tt
-    statement_fits (Assign ts e) good lets exit = λ p s end.
-        fits_then MayCall Enables (IsServing around) Spot p 0 0 (given_code procedures ts e) (targets_code procedures ts) (given_calm MayCall Enables (IsServing around) Spot sizes procedures ts e good.1 0 p) (given_keeps procedures ts e 0)
-        (targets_calm MayCall Enables (IsServing around) Spot sizes procedures ts good.0 0 (p + length (given_code procedures ts e)))
+    statement_fits (Assign ts e) good lets exit = λ p s end. assigned_calm MayCall Enables (IsServing around) Spot sizes procedures ts e good.0 good.1 0 p
     statement_fits (Evaluate e) good lets exit = λ p s end. dropped_calm MayCall Enables (IsServing around) Spot sizes procedures e good 0 p
     statement_fits Return good lets exit = λ p s end. returning_fits around good p
     statement_fits (ReturnValue w e) good lets exit = λ p s end.
@@ -156,12 +155,15 @@ module _ (MayCall : ℕ → Type 0) (Enables : Type 0) (Spot : ℕ → Type 0) (
         (switching_fits MayCall Enables (IsServing around) Spot (cases_code procedures around exit ss) exit (cases_level procedures around ss exit) (cases_fit ss good.1 lets exit))
     statement_fits (Iterate a (Count o x bound step ss)) good lets exit =
         let bytes = counts_bytes x bound in
-        counted_fits MayCall Enables (IsServing around) Spot bytes (returned_code procedures x.width a) (compared bytes (beside (operand_of bound) (low_code procedures bound)) (beside (operand_of bound) (expression_code procedures bound)))
+        let comparison = compared bytes (beside (operand_of bound) (low_code procedures bound)) (beside (operand_of bound) (expression_code procedures bound)) in
+        let index = Name x.width (place_of x.place) in
+        let in_place = named bytes (within o) index (operand_of bound) in
+        counted_fits MayCall Enables (IsServing around) Spot (returned_code procedures x.width a) (unless_named in_place (index_read bytes x ∷ comparison))
         (statements_code procedures around 0 ss) (expression_code procedures step) o x (operand_of step)
-        (related bytes (within o) (operand_of bound)) exit (returned_calm MayCall Enables (IsServing around) Spot sizes procedures x.width a good.0 0) (returned_keeps procedures x.width a 0)
-        (bound_calm MayCall Enables (IsServing around) Spot sizes procedures bytes bound good.1.1)
-        (compared_up bytes (within o) (operand_of bound) (low_code procedures bound) (expression_code procedures bound) (low_keeps procedures bound) (expression_keeps procedures bound))
-        (bound_word MayCall Enables (IsServing around) Spot sizes procedures bytes (within o) bound good.1.1)
+        (compared_by bytes (within o) index (operand_of bound)) exit (returned_calm MayCall Enables (IsServing around) Spot sizes procedures x.width a good.0 0) (returned_keeps procedures x.width a 0)
+        (bound_calm MayCall Enables (IsServing around) Spot sizes procedures in_place bytes x bound good.1.1)
+        (bound_up bytes (within o) x index (operand_of bound) (low_code procedures bound) (expression_code procedures bound) (low_keeps procedures bound) (expression_keeps procedures bound))
+        (bound_word MayCall Enables (IsServing around) Spot sizes procedures bytes (within o) index bound good.1.1)
         (statements_level procedures around ss 0) (statements_fit ss good.1.3 lets 0) (operand_word MayCall Enables (IsServing around) Spot sizes procedures step good.1.2) (expression_keeps procedures step)
         (expression_calm MayCall Enables (IsServing around) Spot sizes procedures step good.1.2 0)
     statement_fits Leaving good lets exit = absurd good

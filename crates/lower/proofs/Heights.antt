@@ -20,6 +20,8 @@ use Rattle.icode.specs.declared.instruction.Direct.TheVariants as directs
 use Rattle.icode.specs.Heights.{after, behind}
 use Rattle.lower.specs.Expressions.{leads_to, by_offset, folded, unless_known, Operand, anchor_place, Number, Name, Computed, operand_of, beside, operation, scaled, moved, based, reading, locating, writing, receiving, sending, passing, alone, count_of, gives, used, expression_code, first_code, pushed_code, subscripts_code, further_code, target_code, calling, dropped_code, targets_code, stored_in, argument_code, second_passed, pair, second_code, place_of}
 use Rattle.lower.specs.LowBytes.{low_top, low_constant, low_operation, low_code, is_one_step, direct_of, by_operator, take_bytes, given_code, low_reading, low_receiving, takes_byte, unless_low_known, operand_code, low_changing, returned_code}
+use Rattle.lower.specs.Inner.Assignments.{assigned_code}
+use Rattle.lower.proofs.Stores.{assigned}
 
 pub behind_append : (h : ℕ) (xs ys : List Instruction) → behind h (xs ++ ys) ≡ behind (behind h xs) ys
 behind_append h [] ys = refl
@@ -310,3 +312,9 @@ module _ (procedures : List Procedure) where
 
   pub given_keeps : (ts : Targets) (e : Expression) → Keeps (given_code procedures ts e)
   given_keeps ts e h = either_keeps (take_bytes ts) (low_code procedures e) (expression_code procedures e) (low_keeps e) (expression_keeps e) h
+
+  pub assigned_keeps : (ts : Targets) (e : Expression) → Keeps (assigned_code procedures ts e)
+  assigned_keeps ts e =
+      assigned procedures (λ ts code. Keeps code) ts e
+      (λ k is w m l anchor fixed offset stride f more. keeps_both (subscripts_code procedures (Subscript stride f more)) (op.StoreConstantAt w (anchor_place anchor offset) k ∷ []) (subscripts_keep (Subscript stride f more)) (λ h. refl))
+      (keeps_both (given_code procedures ts e) (targets_code procedures ts) (given_keeps ts e) (targets_keep ts))

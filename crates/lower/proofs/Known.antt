@@ -15,7 +15,7 @@ use Rattle.icode.specs.declared.instruction.Instruction.TheVariants as op
 use Rattle.icode.specs.declared.instruction.Test.{Test}
 use Rattle.lower.specs.Expressions.{unary_folded, binary_folded, folded, unless_known, Operand, Number, Name, Computed, number_of, operand_of, place_of, beside, operation, receiving, sending, argument_code, expression_code}
 use Rattle.lower.specs.Statements.{within, next_by_number, add_pushed, next_round, index_read}
-use Rattle.lower.specs.Conditions.{related}
+use Rattle.lower.specs.Conditions.{named, unless_named, compared_by}
 use Rattle.lower.specs.Inner.Loops.{counting, iterating}
 use Rattle.lower.specs.Inner.Expressions.{unless_found, given, unary_code, computed_beside, binary_value_of, binary_code_of, received, sent, operation_value, chain_value, unknown_code, operation_code, chain_code}
 use Rattle.lower.specs.Inner.Put.{name_of}
@@ -194,17 +194,17 @@ round_by_stack o x e h code before = sym (round_stepped o x e code before ∙ ap
 
 -- ---- a DO with an index by its parts
 
-pub iterated : (o : Counting) (x : Scalar) (bound step : Operand) (comparison stepped body old behind compared again : List Instruction) (store read : Instruction) (bytes : Bool) (t : Test) (before exit : ℕ)
-    → behind ≡ (old ++ store ∷ []) ++ read ∷ [] → store ≡ op.Store x.width (place_of x.place) → read ≡ index_read bytes x → compared ≡ comparison → t ≡ related bytes (within o) bound → again ≡ next_round o x step stepped before → before ≡ length comparison + length body + 2
-    → behind ++ counting compared t body again exit ≡ old ++ iterating bytes o x bound comparison step stepped body exit
-iterated o x bound step comparison stepped body old behind compared again store read bytes t before exit is stores reads compares tests ends far =
-    let rounds = λ (u : Test) (more : List Instruction). counting comparison u body more exit in
-    let test = related bytes (within o) bound in
-    ap (λ l. l ++ counting compared t body again exit) is
-    ∙ append_assoc (old ++ store ∷ []) (read ∷ []) (counting compared t body again exit)
-    ∙ append_assoc old (store ∷ []) (read ∷ counting compared t body again exit)
-    ∙ ap (λ s. old ++ (s ∷ read ∷ counting compared t body again exit)) stores
-    ∙ ap (λ i. old ++ (op.Store x.width (place_of x.place) ∷ i ∷ counting compared t body again exit)) reads
-    ∙ ap (λ c. old ++ (op.Store x.width (place_of x.place) ∷ index_read bytes x ∷ counting c t body again exit)) compares
-    ∙ ap (λ u. old ++ (op.Store x.width (place_of x.place) ∷ index_read bytes x ∷ rounds u again)) tests
-    ∙ ap (λ l. old ++ (op.Store x.width (place_of x.place) ∷ index_read bytes x ∷ rounds test l)) (ends ∙ ap (next_round o x step stepped) far)
+pub iterated : (o : Counting) (x : Scalar) (bound step : Operand) (comparison stepped body old behind asked again : List Instruction) (store : Instruction) (bytes : Bool) (t : Test) (before exit : ℕ)
+    → behind ≡ old ++ store ∷ [] → store ≡ op.Store x.width (place_of x.place) → asked ≡ unless_named (named bytes (within o) (Name x.width (place_of x.place)) bound) (index_read bytes x ∷ comparison) → t ≡ compared_by bytes (within o) (Name x.width (place_of x.place)) bound
+    → again ≡ next_round o x step stepped before → before ≡ length asked + length body + 1 → behind ++ counting asked t body again exit ≡ old ++ iterating bytes o x bound comparison step stepped body exit
+iterated o x bound step comparison stepped body old behind asked again store bytes t before exit is stores asks tests ends far =
+    let index = Name x.width (place_of x.place) in
+    let code = unless_named (named bytes (within o) index bound) (index_read bytes x ∷ comparison) in
+    let test = compared_by bytes (within o) index bound in
+    let round = λ (c : List Instruction) (u : Test) (more : List Instruction). old ++ (op.Store x.width (place_of x.place) ∷ counting c u body more exit) in
+    ap (λ l. l ++ counting asked t body again exit) is
+    ∙ append_assoc old (store ∷ []) (counting asked t body again exit)
+    ∙ ap (λ s. old ++ (s ∷ counting asked t body again exit)) stores
+    ∙ ap (λ u. round asked u again) tests
+    ∙ ap (round asked test) (ends ∙ ap (next_round o x step stepped) far)
+    ∙ ap (λ c. round c test (next_round o x step stepped (length c + length body + 1))) asks

@@ -12,6 +12,7 @@ pub mod Exprs
 pub mod Terms
 pub mod Leads
 pub mod Tests
+pub mod Stores
 pub mod Stmts
 pub mod Placed
 pub mod Ordered
@@ -29,6 +30,7 @@ pub mod Allowed
 pub mod Whole
 pub mod Known
 pub mod Trees
+pub mod InPlace
 pub mod Outermost
 pub mod LastCode
 pub mod Turned

@@ -1,17 +1,17 @@
 -- The test of a chain is that of its last operator.
-use Rattle.std.proofs.Common.{◌≡◌, ◌++◌, ℕ, zero, suc, ◌-◌, ◌≤◌, List, [], ◌∷◌, length, take, get_or, Some, None, refl, ap, sym, ◌∙◌, arith}
-use Rattle.std.specs.Prelude.{Bool, ◌&&◌}
+use Rattle.std.proofs.Common.{◌≡◌, ◌++◌, ℕ, zero, suc, ◌-◌, ◌≤◌, List, [], ◌∷◌, length, take, get_or, Option, Some, None, refl, ap, sym, ◌∙◌, arith}
 use Rattle.std.specs.Global.{Vec, Box}
 use Rattle.plm_type.specs.declared.program.Operation.{Operation}
 use Rattle.plm_type.specs.declared.program.Expression as declared_expression
 use Rattle.plm_type.specs.declared.program.Expression.TheVariants as expression
 use Rattle.plm_type.specs.Rest.{Expression, Binary, Procedure}
 use Rattle.plm_type.specs.View.{expression_of, chained}
+use Rattle.icode.specs.declared.instruction.Instruction.{Instruction}
 use Rattle.icode.specs.declared.instruction.Relation.{Relation}
 use Rattle.icode.specs.declared.instruction.Test.TheVariants as test
-use Rattle.lower.specs.Expressions.{expression_code, operand_of, beside, relation_of}
-use Rattle.lower.specs.Conditions.{related, asked, test_of, compared, asking, comparison_code, condition_code}
-use Rattle.lower.specs.LowBytes.{is_byte, low_code}
+use Rattle.lower.specs.Expressions.{operand_of, relation_of}
+use Rattle.lower.specs.Conditions.{are_bytes, named, unless_named, compared_by, asked, test_of, asking, comparison_code, condition_code}
+use Rattle.lower.specs.LowBytes.{low_code}
 
 -- the last operator is the outermost one
 pub chained_last : (e : Expression) (os : List Operation) (o : Operation)
@@ -19,36 +19,29 @@ pub chained_last : (e : Expression) (os : List Operation) (o : Operation)
 chained_last e [] o = refl
 chained_last e (p ∷ os) o = chained_last _ os o
 
--- whether its operands are bytes
-abbrev pub compares_bytes : Expression → List Operation → Operation → Bool
-compares_bytes e os o = is_byte (chained e os) && is_byte (expression_of o.operand)
+-- what is computed before the test of a chain whose last operator may be a relation
+abbrev asks : List Procedure → Expression → List Operation → Operation → Option Relation → List Instruction
+asks ps e os o r =
+    let left = chained e os in
+    let right = expression_of o.operand in
+    asking r (λ q. unless_named (named (are_bytes left right) q (operand_of left) (operand_of right)) (comparison_code ps left right)) (low_code ps (Binary o.line.module o.line.line o.operation o.width left right))
 
 pub relation_coded : (ps : List Procedure) (e : Expression) (os : List Operation) (o : Operation) (r : Relation) → relation_of o.operation ≡ Some r
     → condition_code ps (chained e (os ++ o ∷ []))
-    ≡ compared (compares_bytes e os o) (low_code ps (chained e os) ++ beside (operand_of (expression_of o.operand)) (low_code ps (expression_of o.operand)))
-    (expression_code ps (chained e os) ++ beside (operand_of (expression_of o.operand)) (expression_code ps (expression_of o.operand)))
-relation_coded ps e os o r is =
-    let left = chained e os in
-    let right = expression_of o.operand in
-    ap (condition_code ps) (chained_last e os o)
-    ∙ ap (λ x. asking x (comparison_code ps left right) (low_code ps (Binary o.line.module o.line.line o.operation o.width left right))) is
+    ≡ unless_named (named (are_bytes (chained e os) (expression_of o.operand)) r (operand_of (chained e os)) (operand_of (expression_of o.operand))) (comparison_code ps (chained e os) (expression_of o.operand))
+relation_coded ps e os o r is = ap (condition_code ps) (chained_last e os o) ∙ ap (asks ps e os o) is
 
 pub relation_tested : (e : Expression) (os : List Operation) (o : Operation) (r : Relation) → relation_of o.operation ≡ Some r
-    → test_of (chained e (os ++ o ∷ [])) ≡ related (compares_bytes e os o) r (operand_of (expression_of o.operand))
-relation_tested e os o r is = ap test_of (chained_last e os o) ∙ ap (λ x. asked x (compares_bytes e os o) (operand_of (expression_of o.operand))) is
+    → test_of (chained e (os ++ o ∷ [])) ≡ compared_by (are_bytes (chained e os) (expression_of o.operand)) r (operand_of (chained e os)) (operand_of (expression_of o.operand))
+relation_tested e os o r is = ap test_of (chained_last e os o) ∙ ap (λ x. asked x (are_bytes (chained e os) (expression_of o.operand)) (operand_of (chained e os)) (operand_of (expression_of o.operand))) is
 
 -- of every other operator the value counts
 pub value_coded : (ps : List Procedure) (e : Expression) (os : List Operation) (o : Operation) → relation_of o.operation ≡ None
     → condition_code ps (chained e (os ++ o ∷ [])) ≡ low_code ps (chained e (os ++ o ∷ []))
-value_coded ps e os o is =
-    let left = chained e os in
-    let right = expression_of o.operand in
-    ap (condition_code ps) (chained_last e os o)
-    ∙ ap (λ x. asking x (comparison_code ps left right) (low_code ps (Binary o.line.module o.line.line o.operation o.width left right))) is
-    ∙ sym (ap (low_code ps) (chained_last e os o))
+value_coded ps e os o is = ap (condition_code ps) (chained_last e os o) ∙ ap (asks ps e os o) is ∙ sym (ap (low_code ps) (chained_last e os o))
 
 pub value_tested : (e : Expression) (os : List Operation) (o : Operation) → relation_of o.operation ≡ None → test_of (chained e (os ++ o ∷ [])) ≡ test.Odd
-value_tested e os o is = ap test_of (chained_last e os o) ∙ ap (λ x. asked x (compares_bytes e os o) (operand_of (expression_of o.operand))) is
+value_tested e os o is = ap test_of (chained_last e os o) ∙ ap (λ x. asked x (are_bytes (chained e os) (expression_of o.operand)) (operand_of (chained e os)) (operand_of (expression_of o.operand))) is
 
 -- a slice is what stands before its last operator, and that one
 split_at : (k : ℕ) (os : List Operation) (o : Operation) → length os ≡ suc k → o ≡ get_or os k o → os ≡ take k os ++ o ∷ []

@@ -25,8 +25,11 @@ use Rattle.icode.specs.Heights.{popped, after, behind, height}
 use Rattle.lower.specs.Expressions.{leads_to, by_offset, folded, unless_known, number_of, Operand, Number, Name, Computed, operand_of, place_of, beside, operation, anchor_place, scaled, moved, based, reading, locating, writing, receiving, sending, passing, alone, count_of, relation_of, stands_to, gives, used, expression_code, first_code, pushed_code, subscripts_code, further_code, target_code, calling, dropped_code, targets_code, stored_in, argument_code, second_passed, pair}
 use Rattle.lower.specs.Statements.{all_stay, ended_by, Kind, OfMain, Called, Giving, Serving, returning, narrowed, within, next_by_number, add_pushed, next_round, are_silent, over, failing, choosing, all_of, entries, switching, exit_before, statement_code, statements_code, cases_code, ending, routine_code, while_loop, counts_bytes, index_read}
 use Rattle.lower.specs.LowBytes.{low_top, low_constant, low_operation, low_code, direct_of, by_operator, take_bytes, given_code, low_reading, low_receiving, takes_byte, unless_low_known, operand_code, low_changing, returned_code, low_load}
-use Rattle.lower.specs.Conditions.{low_stands_to, related, are_bytes, asked, test_of, compared, asking, comparison_code, condition_code, always}
+use Rattle.lower.specs.Conditions.{low_stands_to, related, are_bytes, named, or_test, unless_named, compared_by, asked, test_of, compared, asking, comparison_code, condition_code, always}
 use Rattle.lower.proofs.Heights.{low_constant_after, low_top_after}
+use Rattle.lower.proofs.InPlace.{by_named}
+use Rattle.lower.specs.Inner.Assignments.{assigned_code}
+use Rattle.lower.proofs.Stores.{assigned}
 
 -- ---- peaks of typed trees
 
@@ -466,6 +469,15 @@ module _ (procedures : List Procedure) where
   given_stays : (ts : Targets) (e : Expression) (m h : ℕ) → h + peak e ≤ m → Stays m h h (given_code procedures ts e)
   given_stays ts e m h le = either_stays (take_bytes ts) m h (low_code procedures e) (code e) (low_stays e m h le) (expression_stays e m h le)
 
+  assigned_stays : (ts : Targets) (e : Expression) (m h : ℕ) → h + max (peak e) (targets_peak ts) ≤ m → Stays m h h (assigned_code procedures ts e)
+  assigned_stays ts e m h le =
+      assigned procedures (λ ts code. h + max (peak e) (targets_peak ts) ≤ m → Stays m h h code) ts e
+      (λ k is width i l anchor fixed offset stride f more le.
+      let ss = Subscript stride f more in
+      let store = op.StoreConstantAt width (anchor_place anchor offset) k in
+      then_stays m h h h (subscripts_code procedures ss) (store ∷ []) (subscripts_stay ss m h (omega (arith, le))) (last_stays m h h store (omega (arith, le)) refl (omega (arith, le))))
+      (λ le. then_stays m h h h (given_code procedures ts e) (targets_code procedures ts) (given_stays ts e m h (omega (arith, le))) (targets_stay ts m h (omega (arith, le)))) le
+
 -- ---- conditions, and parts of statements
 
 module _ (procedures : List Procedure) where
@@ -475,7 +487,8 @@ module _ (procedures : List Procedure) where
   -- what its test uses up is pushed
   condition_stays : (e : Expression) (m : ℕ) → peak e ≤ m → Stays m 0 (popped (test_of e)) (condition_code procedures e)
   condition_stays (Constant k) m le = low_stays procedures (Constant k) m 0 le
-  condition_stays (Plain width x) m le = low_stays procedures (Plain width x) m 0 le
+  condition_stays (Plain widths.Byte x) m le = (le, refl)
+  condition_stays (Plain widths.Word x) m le = low_stays procedures (Plain widths.Word x) m 0 le
   condition_stays (Variable width r) m le = low_stays procedures (Variable width r) m 0 (omega (arith, le))
   condition_stays (Location r) m le = low_stays procedures (Location r) m 0 (omega (arith, le))
   condition_stays (Unary o width e) m le = low_stays procedures (Unary o width e) m 0 (omega (arith, le))
@@ -490,8 +503,11 @@ module _ (procedures : List Procedure) where
           then_stays m 0 0 (popped (stands_to r (operand_of b))) (value_code a) (beside (operand_of b) (value_code b)) (expression_stays procedures a m 0 (omega (arith, le)))
           (beside_stays m r (operand_of b) (value_code b) (expression_stays procedures b m 1 (omega (arith, le))))
 
-      cases : (r : Option Relation) → Stays m 0 (popped (asked r (are_bytes a b) (operand_of b))) (asking r (comparison_code procedures a b) (low_code procedures (Binary i l o width a b)))
-      cases (Some r) = comparison (are_bytes a b) r
+      cases : (r : Option Relation)
+          → Stays m 0 (popped (asked r (are_bytes a b) (operand_of a) (operand_of b))) (asking r (λ q. unless_named (named (are_bytes a b) q (operand_of a) (operand_of b)) (comparison_code procedures a b)) (low_code procedures (Binary i l o width a b)))
+      cases (Some r) =
+          by_named (λ z. Stays m 0 (popped (or_test z (related (are_bytes a b) r (operand_of b)))) (unless_named z (comparison_code procedures a b))) (are_bytes a b) r (operand_of a) (operand_of b)
+          (comparison (are_bytes a b) r) (λ w y k is number suits. (omega arith, refl))
       cases None = low_stays procedures (Binary i l o width a b) m 0 (omega (arith, le))
   condition_stays (Embedded t e) m le = low_stays procedures (Embedded t e) m 0 (omega (arith, le))
   condition_stays (Input width e) m le = low_stays procedures (Input width e) m 0 (omega (arith, le))
@@ -586,35 +602,45 @@ ended_stays m false around = ending_stays m around
 -- ---- statements
 
 module _ (procedures : List Procedure) (around : Kind) where
-  index_stays : (m : ℕ) (bytes : Bool) (x : Scalar) (more : List Instruction) → Stays m 0 0 more → Stays m 0 0 (index_read bytes x ∷ more)
-  index_stays m true x more s = (omega arith, s)
-  index_stays m false x more s = (omega arith, s)
+  index_stays : (m j : ℕ) (bytes : Bool) (x : Scalar) (more : List Instruction) → Stays m 0 j more → Stays m 0 j (index_read bytes x ∷ more)
+  index_stays m j true x more s = (omega arith, s)
+  index_stays m j false x more s = (omega arith, s)
 
   bound_stays : (m : ℕ) (bytes : Bool) (c : Counting) (bound : Expression) → suc (peak bound) ≤ m
       → Stays m 0 (popped (related bytes (within c) (operand_of bound))) (compared bytes (beside (operand_of bound) (low_code procedures bound)) (beside (operand_of bound) (expression_code procedures bound)))
   bound_stays m true c bound le = low_beside_stays m (within c) (operand_of bound) (low_code procedures bound) (low_stays procedures bound m 1 (omega (arith, le)))
   bound_stays m false c bound le = beside_stays m (within c) (operand_of bound) (expression_code procedures bound) (expression_stays procedures bound m 1 (omega (arith, le)))
 
+  asked_stays : (m : ℕ) (bytes : Bool) (c : Counting) (x : Scalar) (index : Operand) (bound : Expression) → suc (peak bound) ≤ m
+      → Stays m 0 (popped (compared_by bytes (within c) index (operand_of bound)))
+      (unless_named (named bytes (within c) index (operand_of bound)) (index_read bytes x ∷ compared bytes (beside (operand_of bound) (low_code procedures bound)) (beside (operand_of bound) (expression_code procedures bound))))
+  asked_stays m bytes c x index bound le =
+      let comparison = compared bytes (beside (operand_of bound) (low_code procedures bound)) (beside (operand_of bound) (expression_code procedures bound)) in
+      let other = related bytes (within c) (operand_of bound) in
+      by_named (λ z. Stays m 0 (popped (or_test z other)) (unless_named z (index_read bytes x ∷ comparison))) bytes (within c) index (operand_of bound)
+      (index_stays m (popped other) bytes x comparison (bound_stays m bytes c bound le)) (λ w y k is number suits. (omega arith, refl))
+
   iterate_stays : (m : ℕ) (bytes : Bool) (a : Expression) (c : Counting) (x : Scalar) (bound step : Expression) (body : List Instruction) (n exit : ℕ) → max (max (peak a) (suc (peak bound))) (max (peak step) 2) ≤ m → Stays m 0 0 body
-      → Stays m 0 0 (returned_code procedures x.width a ++ (op.Store x.width (place_of x.place) ∷ index_read bytes x
-      ∷ (compared bytes (beside (operand_of bound) (low_code procedures bound)) (beside (operand_of bound) (expression_code procedures bound))
-      ++ (op.AheadUnless (related bytes (within c) (operand_of bound)) exit ∷ (body ++ next_round c x (operand_of step) (expression_code procedures step) n)))))
+      → Stays m 0 0 (returned_code procedures x.width a ++ (op.Store x.width (place_of x.place)
+      ∷ (unless_named (named bytes (within c) (Name x.width (place_of x.place)) (operand_of bound)) (index_read bytes x ∷ compared bytes (beside (operand_of bound) (low_code procedures bound)) (beside (operand_of bound) (expression_code procedures bound)))
+      ++ (op.AheadUnless (compared_by bytes (within c) (Name x.width (place_of x.place)) (operand_of bound)) exit ∷ (body ++ next_round c x (operand_of step) (expression_code procedures step) n)))))
   iterate_stays m bytes a c x bound step body n exit le sb =
       let again = next_round c x (operand_of step) (expression_code procedures step) n in
       let comparison = compared bytes (beside (operand_of bound) (low_code procedures bound)) (beside (operand_of bound) (expression_code procedures bound)) in
-      let t = related bytes (within c) (operand_of bound) in
+      let index = Name x.width (place_of x.place) in
+      let asked = unless_named (named bytes (within c) index (operand_of bound)) (index_read bytes x ∷ comparison) in
+      let t = compared_by bytes (within c) index (operand_of bound) in
       let rest = op.AheadUnless t exit ∷ (body ++ again) in
       let sn = next_stays procedures m c x step n (omega (arith, le)) (expression_stays procedures step m 0 (omega (arith, le))) in
-      let sc = bound_stays m bytes c bound (omega (arith, le)) in
-      let sr = step_stays m (popped t) 0 0 (op.AheadUnless t exit) (body ++ again) (ends m 0 (popped t) comparison sc) (omega arith) (then_stays m 0 0 0 body again sb sn) in
-      then_stays m 0 0 0 (returned_code procedures x.width a) (op.Store x.width (place_of x.place) ∷ index_read bytes x ∷ (comparison ++ rest)) (returned_stays procedures x.width a m 0 (omega (arith, le)))
-      (omega arith, index_stays m bytes x (comparison ++ rest) (then_stays m 0 (popped t) 0 comparison rest sc sr))
+      let sc = asked_stays m bytes c x index bound (omega (arith, le)) in
+      let sr = step_stays m (popped t) 0 0 (op.AheadUnless t exit) (body ++ again) (ends m 0 (popped t) asked sc) (omega arith) (then_stays m 0 0 0 body again sb sn) in
+      then_stays m 0 0 0 (returned_code procedures x.width a) (op.Store x.width (place_of x.place) ∷ (asked ++ rest)) (returned_stays procedures x.width a m 0 (omega (arith, le)))
+      (omega arith, then_stays m 0 (popped t) 0 asked rest sc sr)
 
   mutual
     statement_stays : (s : Statement) (exit m : ℕ) → statement_peak s ≤ m → Stays m 0 0 (statement_code procedures around exit s)
     statement_stays Empty exit m le = (le, refl)
-    statement_stays (Assign ts e) exit m le =
-        then_stays m 0 0 0 (given_code procedures ts e) (targets_code procedures ts) (given_stays procedures ts e m 0 (omega (arith, le))) (targets_stay procedures ts m 0 (omega (arith, le)))
+    statement_stays (Assign ts e) exit m le = assigned_stays procedures ts e m 0 (omega (arith, le))
     statement_stays (Evaluate e) exit m le = dropped_stays procedures e m 0 (omega (arith, le))
     statement_stays Return exit m le = returning_stays m around
     statement_stays (ReturnValue width e) exit m le =
@@ -636,7 +662,8 @@ module _ (procedures : List Procedure) (around : Kind) where
     statement_stays (Iterate a (Count o x bound step ss)) exit m le =
         let body = statements_code procedures around 0 ss in
         let bytes = counts_bytes x bound in
-        let n = length (compared bytes (beside (operand_of bound) (low_code procedures bound)) (beside (operand_of bound) (expression_code procedures bound))) + length body + 2 in
+        let comparison = compared bytes (beside (operand_of bound) (low_code procedures bound)) (beside (operand_of bound) (expression_code procedures bound)) in
+        let n = length (unless_named (named bytes (within o) (Name x.width (place_of x.place)) (operand_of bound)) (index_read bytes x ∷ comparison)) + length body + 1 in
         iterate_stays m bytes a o x bound step body n (length body + length (next_round o x (operand_of step) (expression_code procedures step) n) + exit) (omega (arith, le)) (statements_stay ss 0 m (omega (arith, le)))
     statement_stays Leaving exit m le = (le, refl)
     statement_stays (Round l) exit m le = (le, refl)

@@ -1,4 +1,4 @@
--- The code of a program's procedures takes at most 41 bytes a node.
+-- The code of a program's procedures takes at most 23 bytes a node.
 use Rattle.std.proofs.Common.{◌≡◌, ℕ, zero, suc, ◌+◌, ◌*◌, ◌≤◌, Bool, true, false, List, [], ◌∷◌, ◌++◌, length, Option, Some, None, map, refl, ap, ◌∙◌, subst, arith, slice_get}
 use Rattle.std.specs.Prelude.{cond, option_map}
 use Rattle.std.proofs.lemmas.Option.{slice_get-map, none-some}
@@ -41,8 +41,8 @@ first_apart : (f : ℕ → ℕ) (n : ℕ) → sum_below f (suc n) ≡ f 0 + sum_
 first_apart f zero = omega arith
 first_apart f (suc n) = let h = first_apart f n in omega (arith, h)
 
-pub sum_fits : (f : ℕ → ℕ) (ps : List ProcedureR) → ((q : ℕ) (p : ProcedureR) → slice_get ps q ≡ Some p → f q + 12 ≤ 41 * (1 + statements_nodes p.body))
-    → sum_below f (length ps) + 12 * length ps ≤ 41 * procedures_nodes ps
+pub sum_fits : (f : ℕ → ℕ) (ps : List ProcedureR) → ((q : ℕ) (p : ProcedureR) → slice_get ps q ≡ Some p → f q + 12 ≤ 23 * (1 + statements_nodes p.body))
+    → sum_below f (length ps) + 12 * length ps ≤ 23 * procedures_nodes ps
 sum_fits f [] each = omega arith
 sum_fits f (p ∷ ps) each =
     let g : ℕ → ℕ = λ q. f (suc q) in
@@ -83,7 +83,7 @@ module _ (variables : List Variable) (declared : List ProcedureR) (sizes : List 
   module _ (MayCall : ℕ → Type 0) (vectors : List (Option ℕ)) (main : Statements)
       (bodies : (q : ℕ) (procedure : Procedure) → slice_get procs q ≡ Some procedure → AreStatements sizes procs MayCall (kind_of (serves vectors q) (are_giving procedure.body)) procedure.body)
       (none : of_procedures variables declared sizes declared ≡ []) where
-    procedure_fits : (q : ℕ) (p : ProcedureR) → slice_get declared q ≡ Some p → room_in (code procs vectors main (routine.Procedure q)) + 12 ≤ 41 * (1 + statements_nodes p.body)
+    procedure_fits : (q : ℕ) (p : ProcedureR) → slice_get declared q ≡ Some p → room_in (code procs vectors main (routine.Procedure q)) + 12 ≤ 23 * (1 + statements_nodes p.body)
     procedure_fits q p got =
         let body = body_for variables declared sizes p in
         let there : slice_get procs q ≡ Some (procedure_for variables declared sizes p) = slice_get-map (procedure_for variables declared sizes) declared q ∙ ap (option_map (procedure_for variables declared sizes)) got in
@@ -92,11 +92,11 @@ module _ (variables : List Variable) (declared : List ProcedureR) (sizes : List 
         let i = body_count p (no_fault_in declared q p none got) in
         omega (arith, same, h, i)
 
-    pub procedures_fit : sum_below (λ q. room_in (code procs vectors main (routine.Procedure q))) (length declared) + 12 * length declared ≤ 41 * procedures_nodes declared
+    pub procedures_fit : sum_below (λ q. room_in (code procs vectors main (routine.Procedure q))) (length declared) + 12 * length declared ≤ 23 * procedures_nodes declared
     procedures_fit = sum_fits (λ q. room_in (code procs vectors main (routine.Procedure q))) declared procedure_fits
 
   pub main_fits : (MayCall : ℕ → Type 0) (vectors : List (Option ℕ)) (m : MainR) → of_main variables declared sizes m ≡ []
-      → AreStatements sizes procs MayCall OfMain (main_for variables declared sizes m) → room_in (code procs vectors (main_for variables declared sizes m) routine.Main) ≤ 41 * statements_nodes m.statements + 5
+      → AreStatements sizes procs MayCall OfMain (main_for variables declared sizes m) → room_in (code procs vectors (main_for variables declared sizes m) routine.Main) ≤ 23 * statements_nodes m.statements + 5
   main_fits MayCall vectors m none is =
       let h = typed.main_room sizes procs MayCall (main_for variables declared sizes m) is in
       let i = statements_count variables declared sizes m.module stands.Main m.statements none in

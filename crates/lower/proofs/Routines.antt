@@ -57,6 +57,7 @@ module _ (MayCall : ℕ → Type 0) (Enables Finishes : Type 0) where
     constant_fits : (x : Instruction) (p h : ℕ) (more : List Instruction) → Fit MayCall Enables Finishes Spot p h x more → constant_in x < 65536
     constant_fits (op.Constant k) p h more f = f
     constant_fits (op.BinaryConstant o w k) p h more f = f
+    constant_fits (op.StoreConstantAt w y k) p h more f = f
     constant_fits (op.AheadUnless t n) p h more f = f.2
     constant_fits (op.BackUnless t n) p h more f = f.2
     constant_fits (op.Next w y s n) p h more f = f.2

@@ -1,6 +1,6 @@
 -- The code of statements does what their rest does.
 use Rattle.std.proofs.lemmas.Bool.{and_parts, and_left, and_right, ltb-true, ltb-false}
-use Rattle.std.proofs.Common.{◌≡◌, ℕ, zero, suc, ◌+◌, ◌-◌, ◌*◌, ◌/◌, ◌%◌, ◌<◌, ◌≤◌, Bool, true, false, List, [], ◌∷◌, ◌++◌, length, Some, refl, sym, ap, ◌∙◌, subst, arith, slice_get, length-append, true≢false}
+use Rattle.std.proofs.Common.{◌≡◌, ℕ, zero, suc, ◌+◌, ◌-◌, ◌*◌, ◌/◌, ◌%◌, ◌<◌, ◌≤◌, Bool, true, false, List, [], ◌∷◌, ◌++◌, length, Option, Some, None, refl, sym, ap, ◌∙◌, subst, arith, slice_get, length-append, true≢false}
 use Rattle.std.specs.Prelude.{if◌then◌else◌, nat_lt, ◌&&◌}
 use Rattle.word86.specs.declared.width.Width.{Width}
 use Rattle.word86.specs.declared.width.Width.TheVariants as widths
@@ -11,7 +11,7 @@ use Rattle.word86.specs.Action.{Silent, Touch}
 use Rattle.word86.specs.Arithmetic.{low}
 use Rattle.plm_type.specs.declared.program.Counting.{Counting}
 use Rattle.plm_type.specs.declared.program.Counting.TheVariants as counting
-use Rattle.plm_type.specs.Rest.{Scalar, Expression, Constant, Plain, Variable, Location, Unary, Binary, Embedded, Input, Call, Value, Passing, Running, Target, Targets, Only, Also, Loop, Count, Statement, Empty, Assign, Evaluate, Return, ReturnValue, Enabling, Disabling, Halting, If, Block, While, Case, Iterate, Leaving, Round, Comparing, Stepping, Adding, Storing, Ending, Statements, End, Then, Returned, Rest}
+use Rattle.plm_type.specs.Rest.{Anchor, Scalar, Expression, Constant, Plain, Variable, Location, Unary, Binary, Embedded, Input, Call, Value, Passing, Running, Refer, Subscripts, Subscript, Target, ToVariable, Targets, Only, Also, Loop, Count, Statement, Empty, Assign, Evaluate, Return, ReturnValue, Enabling, Disabling, Halting, If, Block, While, Case, Iterate, Leaving, Round, Comparing, Stepping, Adding, Storing, Ending, Statements, End, Then, Returned, Rest}
 use Rattle.plm_type.specs.Next.{value_of, is_odd, behind, evaluated, leaves}
 use Rattle.icode.specs.declared.instruction.Instruction.{Instruction}
 use Rattle.icode.specs.declared.instruction.Instruction.TheVariants as op
@@ -19,29 +19,32 @@ use Rattle.icode.specs.declared.instruction.Relation.{Relation}
 use Rattle.icode.specs.declared.instruction.Relation.TheVariants as relation
 use Rattle.icode.specs.declared.instruction.LowByte.TheVariants as lows
 use Rattle.icode.specs.declared.instruction.High.TheVariants as highs
+use Rattle.icode.specs.declared.instruction.Test.{Test}
 use Rattle.icode.specs.declared.instruction.Test.TheVariants as test
 use Rattle.icode.specs.declared.code.Routine.{Routine}
 use Rattle.icode.specs.declared.code.Word.{Word}
 use Rattle.icode.specs.declared.code.Word.TheVariants as words
 use Rattle.icode.specs.Machine.{Context, At, stands, stored, with_low, loaded, switched}
 use Rattle.lower.proofs.LowBytes.{HasLow, fits_small, low_sim}
-use Rattle.lower.specs.Expressions.{folded, Operand, Number, Name, Computed, operand_of, place_of, beside, expression_code, target_code, targets_code, calling, are_giving}
+use Rattle.lower.specs.Expressions.{folded, Operand, Number, Name, Computed, operand_of, place_of, anchor_place, beside, expression_code, subscripts_code, target_code, targets_code, calling, are_giving}
 use Rattle.lower.specs.Statements.{Kind, OfMain, Called, Giving, Serving, returning, narrowed, within, next_with_sign, next_by_number, add_pushed, next_round, is_silent, are_silent, over, choosing, all_of, entries, switching, exit_before, statement_code, statements_code, cases_code, ending, while_loop, counts_bytes, index_read, stays, all_stay, ended_by}
 use Rattle.lower.specs.LowBytes.{given_code, returned_code, is_byte, is_narrow, low_code, low_load}
-use Rattle.lower.specs.Conditions.{test_of, condition_code, always, compared, related}
+use Rattle.lower.specs.Conditions.{test_of, condition_code, always, compared, related, named, or_test, unless_named, compared_by}
 use Rattle.lower.specs.Well.{StepIs, Lies, IsExpression, AreTargets, MayReturn, MayReturnValue, IsStatement, IsLoop, AreStatements}
 use Rattle.lower.proofs.Setting.{Setting}
 use Rattle.lower.proofs.Sim.{N, X, T, S, fewer, eased, then_, up, up_free, down, down_more, both, both_more, touches, touches_more, enables, disables, halts}
 use Rattle.lower.proofs.Holes.{IsHole, IsBody, in_assign, in_evaluate, in_return, in_if, in_while, in_case, in_iterate, in_comparing, in_stepping, in_only, in_also, acts, HasAt, has_front, has_back}
 use Rattle.lower.proofs.Sums.{up_sum, down_sum, named_up, computed_up, counted_sum}
-use Rattle.lower.proofs.Memory.{found_plain}
+use Rattle.lower.proofs.Memory.{IsFixed, found_plain}
 use Rattle.lower.proofs.Values.{low_word}
-use Rattle.lower.proofs.Nodes.{nodes, all_nodes, target_nodes, targets_nodes}
+use Rattle.lower.proofs.Nodes.{nodes, all_nodes, subscripts_nodes, target_nodes, targets_nodes}
 use Rattle.lower.proofs.Folds.{folded_small, folds}
-use Rattle.lower.proofs.Exprs.{IsOperand, operand_is, Left, ProcedureRuns, moved_to, has_at, rise_in, rise, soon, push_then}
-use Rattle.lower.proofs.Terms.{not_value, expression_sim, call_sim, target_sim}
+use Rattle.lower.proofs.Exprs.{IsOperand, operand_is, Left, ProcedureRuns, moved_to, has_at, rise_in, rise, soon, push_then, fixed_written}
+use Rattle.lower.proofs.Terms.{not_value, expression_sim, call_sim, subscripts_sim, target_sim}
+use Rattle.lower.proofs.Stores.{assigned}
 use Rattle.lower.proofs.LowTargets.{AllGet, given_sim}
-use Rattle.lower.proofs.Tests.{Holds, condition_sim, bound_sim}
+use Rattle.lower.proofs.InPlace.{Suits, name_named}
+use Rattle.lower.proofs.Tests.{constant_fits, Holds, condition_sim, bound_sim, bound_in_place}
 use Rattle.lower.proofs.Fits.{entries_length}
 use Rattle.lower.proofs.Leads.{lead, leads}
 
@@ -269,8 +272,31 @@ module _ (x : Setting) (MayCall : ℕ → Type 0) (calls : (q : ℕ) → MayCall
       (rise_in x (targets_nodes ts + 2) n 2 (D (Then (Assign ts (Value v)) later)) (At r (p + length ct) u ws) (omega (arith, fits)) (omega arith)
       (targets_sim ts good.1 (omega (arith, fits)) n v u gets.1 later (p + length ct) (has_back (x.code r) p ct cs has) (moved_to x x.room n 2 (D later) r (p + length (ct ++ cs)) (p + length ct + length cs) u ws (omega (arith, length-append ct cs)) go))))
 
-  assign_runs : (ts : Targets) (e : Expression) → AreTargets x.sizes x.procedures MayCall ts → IsExpression x.sizes x.procedures MayCall e → StatementRuns (Assign ts e)
-  assign_runs ts e gt ge not n ret exit later p k small has to out a =
+  -- what this code does, if it is an assignment's
+  abbrev AssignedBy : Targets → Expression → List Instruction → Type 0
+  AssignedBy ts e code = (n : ℕ) (later : Statements) (p k : ℕ) → k + lead (Assign ts e) ≤ x.room → HasAt (x.code r) p code → K k 2 n later (p + length code) → K (k + lead (Assign ts e)) 1 n (Then (Assign ts e) later) p
+
+  -- the value of a constant takes silent steps alone, and is written where the subscripts lead
+  stored_runs : (e : Expression) (c : ℕ) → folded e ≡ Some c → (w : Width) (m l : ℕ) (anchor : Anchor) → IsFixed anchor → (offset stride : ℕ) (f : Expression) (more : Subscripts) → AreTargets x.sizes x.procedures MayCall (Only (ToVariable w (Refer m l anchor offset (Subscript stride f more))))
+      → AssignedBy (Only (ToVariable w (Refer m l anchor offset (Subscript stride f more)))) e (subscripts_code x.procedures (Subscript stride f more) ++ op.StoreConstantAt w (anchor_place anchor offset) c ∷ [])
+  stored_runs e c is w m l anchor fixed offset stride f more gt n later p k small has to a =
+      let ss = Subscript stride f more in
+      let t = ToVariable w (Refer m l anchor offset (Subscript stride f more)) in
+      let C = λ (y : Target). D (Then (Assign (Only y) (Value c)) later) in
+      let tx = in_only x D dx later c in
+      let cs = subscripts_code x.procedures (Subscript stride f more) in
+      let store = op.StoreConstantAt w (anchor_place anchor offset) c in
+      let pc = p + length cs in
+      let steps = subscripts_nodes ss + 2 in
+      eased x (nodes e + suc steps) (k + (1 + subscripts_nodes ss + nodes e + 5)) n 0 1 (D (Then (Assign (Only t) e) later)) (At r p a ws) (omega arith) (omega arith)
+      (folds x e c is (suc steps) n 0 (omega arith) (λ y. D (Then (Assign (Only t) y) later)) (in_assign x D dx later (Only t)) (At r p a ws)
+      (λ R u. up x steps n 0 (omega arith) R (C t) (At r p a ws) u
+      (subscripts_sim x MayCall calls (Subscript stride f more) gt.1 (omega (arith, small)) n (λ q. C (ToVariable w q)) (tx.part w) m l anchor offset r p ws (has_front (x.code r) p cs (store ∷ []) has)
+      (λ further on reached. fixed_written x n c c C (D later) tx r ws m l w refl anchor gt.0 fixed offset further on reached (At r pc on ws) (pc + 1) (acts x r pc on ws store (has_back (x.code r) p cs (store ∷ []) has).0)
+      (moved_to x x.room n 2 (D later) r (p + length (cs ++ store ∷ [])) (pc + 1) c ws (omega (arith, length-append cs (store ∷ []))) (to_room k n later (p + length (cs ++ store ∷ [])) c (omega (arith, small)) to))) a)))
+
+  given_runs : (ts : Targets) (e : Expression) → AreTargets x.sizes x.procedures MayCall ts → IsExpression x.sizes x.procedures MayCall e → AssignedBy ts e (given_code x.procedures ts e ++ targets_code x.procedures ts)
+  given_runs ts e gt ge n later p k small has to a =
       let ce = given_code x.procedures ts e in
       let ct = targets_code x.procedures ts in
       let pe = p + length ce in
@@ -278,6 +304,10 @@ module _ (x : Setting) (MayCall : ℕ → Type 0) (calls : (q : ℕ) → MayCall
       (given_sim x MayCall calls ts e ge (omega (arith, small)) n (λ y. D (Then (Assign ts y) later)) (in_assign x D dx later ts) r p ws (has_front (x.code r) p ce ct has)
       (λ v u gets. rise_in x (targets_nodes ts + 2) n 2 (D (Then (Assign ts (Value v)) later)) (At r pe u ws) (omega (arith, small)) (omega arith)
       (targets_sim ts gt (omega (arith, small)) n v u gets later pe (has_back (x.code r) p ce ct has) (moved_to x x.room n 2 (D later) r (p + length (ce ++ ct)) (pe + length ct) u ws (omega (arith, length-append ce ct)) (to_room k n later (p + length (ce ++ ct)) u (omega (arith, small)) to)))) a)
+
+  assign_runs : (ts : Targets) (e : Expression) → AreTargets x.sizes x.procedures MayCall ts → IsExpression x.sizes x.procedures MayCall e → StatementRuns (Assign ts e)
+  assign_runs ts e gt ge not n ret exit later p k small has to out =
+      assigned x.procedures (λ ts code. AreTargets x.sizes x.procedures MayCall ts → AssignedBy ts e code) ts e (stored_runs e) (λ gt. given_runs ts e gt ge) gt n later p k small has to
 
   evaluated_sim : (e : Expression) → IsExpression x.sizes x.procedures MayCall e → (n : ℕ) (later : Statements) (p k : ℕ) → k + (nodes e + 5) ≤ x.room → HasAt (x.code r) p (expression_code x.procedures e)
       → K k 2 n later (p + length (expression_code x.procedures e)) → K (k + (nodes e + 5)) 1 n (Then (Evaluate e) later) p
@@ -359,15 +389,15 @@ module _ (x : Setting) (MayCall : ℕ → Type 0) (calls : (q : ℕ) → MayCall
   -- ---- IF
 
   -- the condition, once it is known where the two ways lead
-  if_then : (c : Expression) (arm other : Statements) → IsExpression x.sizes x.procedures MayCall c → nodes c + 2 ≤ x.room → (n k kk : ℕ) → kk ≤ x.room → nodes c + 3 ≤ k → (later : Statements) (p d : ℕ) (tail : List Instruction) → HasAt (x.code r) p (condition_code x.procedures c ++ (op.AheadUnless (test_of c) d ∷ tail))
+  if_then : (c : Expression) (arm other : Statements) → IsExpression x.sizes x.procedures MayCall c → nodes c + 2 ≤ x.room → (n k kk : ℕ) → kk + nodes c ≤ x.room → nodes c + 3 ≤ k → (later : Statements) (p d : ℕ) (tail : List Instruction) → HasAt (x.code r) p (condition_code x.procedures c ++ (op.AheadUnless (test_of c) d ∷ tail))
       → K kk 2 n (behind arm later) (p + length (condition_code x.procedures c) + 1) → K kk 2 n (behind other later) (p + length (condition_code x.procedures c) + 1 + d) → K k 1 n (Then (If c arm other) later) p
   if_then c arm other gc fits n k kk small wide later p d tail has ours theirs a =
       let cc = condition_code x.procedures c in
       let on = p + length cc + 1 in
       eased x (nodes c + 3) k n 0 1 (D (Then (If c arm other) later)) (At r p a ws) wide (omega arith)
-      (condition_sim x MayCall calls n kk small D (behind arm later) (behind other later) r on (on + d) ws ours theirs
+      (condition_sim x MayCall calls n kk (omega (arith, small)) D (behind arm later) (behind other later) r on (on + d) ws ours theirs
       (λ y. D (Then (If y arm other) later)) (in_if x D dx later arm other) (λ v. dx (Then (If (Value v) arm other) later) refl ∙ ap (λ y. Silent (D y)) (behind_if (is_odd v) arm other later))
-      c gc fits p d (has_head (x.code r) p cc (op.AheadUnless (test_of c) d) tail has) refl refl a)
+      c gc fits small p d (has_head (x.code r) p cc (op.AheadUnless (test_of c) d) tail has) refl refl a)
 
   if_by : (c : Expression) (arm other : Statements) → IsExpression x.sizes x.procedures MayCall c → ArmRuns arm → ArmRuns other → (b : Bool) → are_silent other ≡ b → (n : ℕ) → Returns around n → (exit : ℕ) (later : Statements) (p k : ℕ) → k + (nodes c + leads arm + leads other + 5) ≤ x.room
       → HasAt (x.code r) p (choosing (condition_code x.procedures c) (test_of c) (codes_at (length (over b (codes_at exit other) exit) + length (codes_at exit other) + exit) arm) b (codes_at exit other) exit)
@@ -442,7 +472,7 @@ module _ (x : Setting) (MayCall : ℕ → Type 0) (calls : (q : ℕ) → MayCall
       (k_more (0 + leads ss) kk 2 2 (suc n) (behind ss (Then (While c c ss) later)) on (omega arith) (omega arith) ours)
       (k_more k kk 1 2 (suc n) later (on + d) (omega arith) (omega arith) (k_at k 1 (suc n) later (on + length cs + 1 + exit) (on + d) (omega arith) out))
       (λ y. D (Then (While y c ss) later)) (in_while x D dx later c ss) (λ v. dx (Then (While (Value v) c ss) later) refl)
-      c gc (omega (arith, small)) p d (has_head (x.code r) p cc (op.AheadUnless (test_of c) d) (cs ++ back) has) refl refl a
+      c gc (omega (arith, small)) (omega (arith, small)) p d (has_head (x.code r) p cc (op.AheadUnless (test_of c) d) (cs ++ back) has) refl refl a
 
   -- Without a test: the body again and again. The jump back goes with the rest's steps to the next round.
   round_on : (j : ℕ) → is_odd j ≡ true → (ss : Statements) → ArmRuns ss → (p k : ℕ) → k + (leads ss + 6) ≤ x.room → HasAt (x.code r) p (codes_at 0 ss ++ op.Back (length (codes_at 0 ss) + 1) ∷ []) → (later : Statements)
@@ -824,40 +854,73 @@ module _ (x : Setting) (MayCall : ℕ → Type 0) (calls : (q : ℕ) → MayCall
     abbrev comparison : (bytes : Bool) → List Instruction
     comparison b = compared b (beside (operand_of bound) (low_code x.procedures bound)) (beside (operand_of bound) (expression_code x.procedures bound))
 
+    abbrev index : Operand
+    index = Name w (place_of y.place)
+
+    abbrev in_place : (bytes : Bool) → Option Test
+    in_place b = named b (within o) index (operand_of bound)
+
+    -- a round begins by this code and this test
+    abbrev asked : (bytes : Bool) → Option Test → List Instruction
+    asked b z = unless_named z (index_read b y ∷ comparison b)
+
+    abbrev tested : (bytes : Bool) → Option Test → Test
+    tested b z = or_test z (related b (within o) (operand_of bound))
+
+    abbrev Begins : (bytes : Bool) (m on d : ℕ) → Option Test → Type 0
+    Begins b m on d z = HasAt (x.code r) pr (asked b z ++ op.AheadUnless (tested b z) d ∷ []) → pr + length (asked b z) + 1 ≡ on → (a : ℕ) → S x 2 m 0 (D (Then (Round l) later)) (At r pr a ws)
+
+    module _ (bytes : Bool) (is : counts_bytes y bound ≡ bytes) (m kk : ℕ) (wide : kk + nodes bound ≤ x.room) (on d : ℕ) (ours : K kk 2 m (behind ss (Then (Stepping step l) later)) on) (theirs : K kk 2 m later (on + d)) where
+      -- the index is read, and then compared
+      read_then : nodes bound + 2 ≤ x.room → Begins bytes m on d None
+      read_then fits has at a =
+          touches x 2 m 0 (Read w y.place) (D (Then (Round l) later)) (λ i. D (Then (Comparing i bound l) later)) (At r pr a ws) (λ i. At r (pr + 1) (seen bytes a i) ws) (dx (Then (Round l) later) refl)
+          (index_is bytes is a has.0)
+          (λ i lt. then_ x (nodes bound + 3) m 1 2 (D (Then (Comparing i bound l) later)) (At r (pr + 1) (seen bytes a i) ws) (omega (arith, fits)) (omega arith)
+          (bound_sim x MayCall calls m kk (omega (arith, wide)) D (behind ss (Then (Stepping step l) later)) later r on (on + d) ws ours theirs
+          bytes o i (seen bytes a i) (λ e. D (Then (Comparing i e l) later)) (in_comparing x D dx later i l) (λ v. dx (Then (Comparing i (Value v) l) later) refl) bound gb (holds_index bytes is a i lt) fits (pr + 1) d has.1 (omega (arith, at)) (omega (arith, at))))
+
+      -- the test reads it
+      test_then : (c : ℕ) → operand_of bound ≡ Number c → Suits bytes w → Begins bytes m on d (Some (test.Named (within o) w (place_of y.place) c))
+      test_then c number suits has at a =
+          let known : folded bound ≡ Some c = subst (λ q. IsOperand bound q) number (operand_is bound) in
+          let same = constant_fits x.sizes x.procedures MayCall bound gb c known bytes (λ h. (and_parts (is_narrow w) (is_byte bound) (is ∙ h)).1) w suits in
+          bound_in_place x MayCall calls m kk (omega (arith, wide)) D (behind ss (Then (Stepping step l) later)) later r on (on + d) ws ours theirs
+          o w y.place lies (D (Then (Round l) later)) (λ i e. D (Then (Comparing i e l) later)) (λ i. in_comparing x D dx later i l) (λ i v. dx (Then (Comparing i (Value v) l) later) refl) bound (dx (Then (Round l) later) refl)
+          c known same wide pr d has.0 (omega (arith, at)) (omega (arith, at)) 2 0 a
+
+      asked_then : nodes bound + 2 ≤ x.room → Begins bytes m on d (in_place bytes)
+      asked_then fits = name_named (Begins bytes m on d) bytes (within o) w (place_of y.place) (operand_of bound) (read_then fits) test_then
+
     -- the rounds, by induction on the number of instructions
-    round_sim : (bytes : Bool) → counts_bytes y bound ≡ bytes → (exit k : ℕ) → k + (nodes bound + nodes step + leads ss + 5) ≤ x.room → (cb cs ca : List Instruction) → cb ≡ comparison bytes → cs ≡ codes_at 0 ss → ca ≡ next_round o y (operand_of step) (expression_code x.procedures step) (length cb + length cs + 2)
-        → HasAt (x.code r) pr (index_read bytes y ∷ (cb ++ (op.AheadUnless (related bytes (within o) (operand_of bound)) (length cs + length ca + exit) ∷ (cs ++ ca))))
-        → (n : ℕ) → Returns around n → K k 2 n later (pr + 1 + length cb + 1 + length cs + length ca) → K k 1 n later (pr + 1 + length cb + 1 + length cs + length ca + exit) → (a : ℕ) → S x 2 n 0 (D (Then (Round l) later)) (At r pr a ws)
+    round_sim : (bytes : Bool) → counts_bytes y bound ≡ bytes → (exit k : ℕ) → k + (nodes bound + nodes step + leads ss + 5) ≤ x.room → (cb cs ca : List Instruction) → cb ≡ asked bytes (in_place bytes) → cs ≡ codes_at 0 ss → ca ≡ next_round o y (operand_of step) (expression_code x.procedures step) (length cb + length cs + 1)
+        → HasAt (x.code r) pr (cb ++ (op.AheadUnless (tested bytes (in_place bytes)) (length cs + length ca + exit) ∷ (cs ++ ca)))
+        → (n : ℕ) → Returns around n → K k 2 n later (pr + length cb + 1 + length cs + length ca) → K k 1 n later (pr + length cb + 1 + length cs + length ca + exit) → (a : ℕ) → S x 2 n 0 (D (Then (Round l) later)) (At r pr a ws)
     round_sim bytes is exit k small cb cs ca eb es ea has zero ret to out a = tt
     round_sim bytes is exit k small cb cs ca eb es ea has (suc n) ret to out a =
-        let jump = op.AheadUnless (related bytes (within o) (operand_of bound)) (length cs + length ca + exit) in
+        let jump = op.AheadUnless (tested bytes (in_place bytes)) (length cs + length ca + exit) in
         let m = suc n in
-        let p1 = pr + 1 in
-        let pj = p1 + length cb in
+        let pj = pr + length cb in
         let on = pj + 1 in
         let pg = on + length cs in
         let pe = pg + length ca in
         let d = length cs + length ca + exit in
-        let h1 = has_back (x.code r) p1 cb (jump ∷ (cs ++ ca)) has.1 in
+        let h1 = has_back (x.code r) pr cb (jump ∷ (cs ++ ca)) has in
         let h2 = has_front (x.code r) on cs ca h1.1 in
         let h3 = has_back (x.code r) on cs ca h1.1 in
         let round = round_sim bytes is exit k small cb cs ca eb es ea has n (fewer_returns around n ret) (k_fewer k 2 n later pe to) (k_fewer k 1 n later (pe + exit) out) in
         let ks = nodes step + 3 in
-        let next : K (nodes step + 3) 1 m (Then (Stepping step l) later) pg = step_then (operand_of step) (operand_is step) by (omega (arith, small)) n k (length cb + length cs + 2) pg (omega (arith, small)) (omega arith)
-        (subst (λ c. HasAt (x.code r) pg c) ea h3) round (k_at k 2 m later pe (pg + length (next_round o y (operand_of step) (expression_code x.procedures step) (length cb + length cs + 2))) (omega (arith, ap length ea)) to) in
+        let next : K (nodes step + 3) 1 m (Then (Stepping step l) later) pg = step_then (operand_of step) (operand_is step) by (omega (arith, small)) n k (length cb + length cs + 1) pg (omega (arith, small)) (omega arith)
+        (subst (λ c. HasAt (x.code r) pg c) ea h3) round (k_at k 2 m later pe (pg + length (next_round o y (operand_of step) (expression_code x.procedures step) (length cb + length cs + 1))) (omega (arith, ap length ea)) to) in
         let kk = k + leads ss + ks in
         let ours = run m ret 0 (Then (Stepping step l) later) on ks (omega (arith, small)) (subst (λ c. HasAt (x.code r) on c) es h2)
         (k_more ks ks 1 2 m (Then (Stepping step l) later) (on + length (codes_at 0 ss)) (omega arith) (omega arith) (k_at ks 1 m (Then (Stepping step l) later) pg (on + length (codes_at 0 ss)) (omega (arith, ap length es)) next))
         (k_at ks 1 m (Then (Stepping step l) later) pg (on + length (codes_at 0 ss) + 0) (omega (arith, ap length es)) next) in
         let len = ap length eb in
-        touches x 2 m 0 (Read w y.place) (D (Then (Round l) later)) (λ i. D (Then (Comparing i bound l) later)) (At r pr a ws) (λ i. At r p1 (seen bytes a i) ws) (dx (Then (Round l) later) refl)
-        (index_is bytes is a has.0)
-        (λ i lt. then_ x (nodes bound + 3) m 1 2 (D (Then (Comparing i bound l) later)) (At r p1 (seen bytes a i) ws) (omega (arith, small)) (omega arith)
-        (bound_sim x MayCall calls m kk (omega (arith, small)) D (behind ss (Then (Stepping step l) later)) later r on (on + d) ws
+        asked_then bytes is m kk (omega (arith, small)) on d
         (k_more (ks + leads ss) kk 2 2 m (behind ss (Then (Stepping step l) later)) on (omega arith) (omega arith) ours)
         (k_more k kk 1 2 m later (on + d) (omega arith) (omega arith) (k_at k 1 m later (pe + exit) (on + d) (omega arith) out))
-        bytes o i (seen bytes a i) (λ e. D (Then (Comparing i e l) later)) (in_comparing x D dx later i l) (λ v. dx (Then (Comparing i (Value v) l) later) refl) bound gb (holds_index bytes is a i lt) (omega (arith, small)) p1 d
-        (subst (λ c. HasAt (x.code r) p1 (c ++ jump ∷ [])) eb (has_head (x.code r) p1 cb jump (cs ++ ca) has.1)) (omega (arith, len)) (omega (arith, len))))
+        (omega (arith, small)) (subst (λ c. HasAt (x.code r) pr (c ++ jump ∷ [])) eb (has_head (x.code r) pr cb jump (cs ++ ca) has)) (omega (arith, len)) a
 
   abbrev pub LoopRuns : Loop → Type 0
   LoopRuns (Count o y bound step ss) = ArmRuns ss
@@ -866,11 +929,13 @@ module _ (x : Setting) (MayCall : ℕ → Type 0) (calls : (q : ℕ) → MayCall
   iterate_runs e (Count o y bound step ss) ge gl runs not n ret exit later p k small has to out a =
       let bytes = counts_bytes y bound in
       let ce = returned_code x.procedures y.width e in
-      let cb = compared bytes (beside (operand_of bound) (low_code x.procedures bound)) (beside (operand_of bound) (expression_code x.procedures bound)) in
+      let comparison = compared bytes (beside (operand_of bound) (low_code x.procedures bound)) (beside (operand_of bound) (expression_code x.procedures bound)) in
+      let index = Name y.width (place_of y.place) in
+      let cb = unless_named (named bytes (within o) index (operand_of bound)) (index_read bytes y ∷ comparison) in
       let cs = codes_at 0 ss in
-      let ca = next_round o y (operand_of step) (expression_code x.procedures step) (length cb + length cs + 2) in
-      let jump = op.AheadUnless (related bytes (within o) (operand_of bound)) (length cs + length ca + exit) in
-      let rounds = index_read bytes y ∷ (cb ++ (jump ∷ (cs ++ ca))) in
+      let ca = next_round o y (operand_of step) (expression_code x.procedures step) (length cb + length cs + 1) in
+      let jump = op.AheadUnless (compared_by bytes (within o) index (operand_of bound)) (length cs + length ca + exit) in
+      let rounds = cb ++ (jump ∷ (cs ++ ca)) in
       let tail = op.Store y.width (place_of y.place) ∷ rounds in
       let pe = p + length ce in
       let pr = pe + 1 in
@@ -879,7 +944,7 @@ module _ (x : Setting) (MayCall : ℕ → Type 0) (calls : (q : ℕ) → MayCall
       let len2 = length-append cb (jump ∷ (cs ++ ca)) in
       let len3 = length-append cs ca in
       let h = has_back (x.code r) p ce tail has in
-      let end = pr + 1 + length cb + 1 + length cs + length ca in
+      let end = pr + length cb + 1 + length cs + length ca in
       eased x (nodes e + 2) (k + (nodes e + (nodes bound + nodes step + leads ss) + 5)) n 0 1 (D (Then (Iterate e l) later)) (At r p a ws) (omega arith) (omega arith)
       (returned_sim y.width e ge (omega (arith, small)) n (λ z. D (Then (Iterate z l) later)) (in_iterate x D dx later l) p (has_front (x.code r) p ce tail has)
       (λ v c lt is. rise x n 0 (D (Then (Iterate (Value v) l) later)) (At r pe c ws) (omega arith)

@@ -18,7 +18,7 @@ use Rattle.icode.specs.declared.code.Routine.{Routine}
 use Rattle.icode.specs.declared.code.Routine.TheVariants as routine
 use Rattle.icode.specs.declared.code.Word.{Word}
 use Rattle.icode.specs.declared.code.Word.TheVariants.{Value, Return}
-use Rattle.icode.specs.Machine.{Context, At, operated, computed, with_value, value_in, value_on_top, return_on_top, loaded, stored, with_low, left, finished, switched, address, found, jumped, run, run_at, does, stands, settled, of_bytes}
+use Rattle.icode.specs.Machine.{Context, At, operated, computed, with_value, value_in, value_on_top, return_on_top, loaded, stored, with_low, left, finished, switched, address, found, jumped, run, run_at, does, stands, is_odd, settled, of_bytes}
 use Rattle.icode.specs.Runs.{Leads, Comes}
 
 module _ (Inside : Routine → Type 0) (nowhere : Inside routine.Nowhere) where
@@ -96,6 +96,8 @@ module _ (Inside : Routine → Type 0) (nowhere : Inside routine.Nowhere) where
     jumped_stays o (test.Low c (rights.Constant k)) r p q a ws f g = (f, g)
     jumped_stays o (test.Low c (rights.Plain x)) r p q a ws f g = loaded_stays o widths.Byte (found offsets sizes widths.Byte x (address offsets sizes x 0)) (λ v. At r (if stands c (a % 256) v then p else q) a ws) (λ v. (f, g))
     jumped_stays o (test.Low c rights.Top) r p q a ws f g = with_stays o (value_on_top ws) (λ v. Silent (At r (if stands c (v % 256) (a % 256) then p else q) a (drop 1 ws))) (λ v. (f, dropped_inside 1 ws g))
+    jumped_stays o (test.Named c read x k) r p q a ws f g = loaded_stays o read (found offsets sizes read x (address offsets sizes x 0)) (λ v. At r (if stands c v (low read k) then p else q) a ws) (λ v. (f, g))
+    jumped_stays o (test.OddNamed x) r p q a ws f g = loaded_stays o widths.Byte (found offsets sizes widths.Byte x (address offsets sizes x 0)) (λ v. At r (if is_odd v then p else q) a ws) (λ v. (f, g))
     jumped_stays o (test.Top c) r p q a ws f g = with_stays o (value_on_top ws) (λ v. Silent (At r (if stands c v a then p else q) a (drop 1 ws))) (λ v. (f, dropped_inside 1 ws g))
 
     finished_stays : (ws : List Word) → Stays (Some op.Finish) (finished ws)
@@ -141,6 +143,7 @@ module _ (Inside : Routine → Type 0) (nowhere : Inside routine.Nowhere) where
       run_stays (op.StoreTop width x) r p a ws f g c =
           with_stays (Some (op.StoreTop width x)) (value_on_top ws) (λ v. stored width (found offsets sizes width x (address offsets sizes x 0)) v (At r p a (drop 1 ws)))
           (λ v. stored_stays (Some (op.StoreTop width x)) width (found offsets sizes width x (address offsets sizes x 0)) v (At r p a (drop 1 ws)) (f, dropped_inside 1 ws g))
+      run_stays (op.StoreConstantAt width x k) r p a ws f g c = stored_stays (Some (op.StoreConstantAt width x k)) width (found offsets sizes width x (address offsets sizes x a)) k (At r p k ws) (f, g)
       run_stays (op.Send width) r p a ws f g c = sent ws g
         where
           sent : (ws : List Word) → AreInside ws → Stays (Some (op.Send width)) (run offsets sizes all (op.Send width) r p a ws)

@@ -1,3 +1,4 @@
+pub mod Assignments
 pub mod Put
 pub mod Expressions
 pub mod LowBytes

@@ -17,10 +17,10 @@ module _ (names : Names) where
   procedures_room zero = 0
   procedures_room (suc q) = procedures_room q + room_in (program_code names (routine.Procedure q))
 
-  -- main's and the procedures': 41 bytes for each of their nodes, and main's end
+  -- main's and the procedures': 23 bytes for each of their nodes, and main's end
   pub record HasRoom : Type 0 where
-    pub main : room_in (program_code names routine.Main) ≤ 41 * statements_nodes (main_of names.main).statements + 5
-    pub procedures : procedures_room (length (declared_procedures names)) + 12 * length (declared_procedures names) ≤ 41 * procedures_nodes (declared_procedures names)
+    pub main : room_in (program_code names routine.Main) ≤ 23 * statements_nodes (main_of names.main).statements + 5
+    pub procedures : procedures_room (length (declared_procedures names)) + 12 * length (declared_procedures names) ≤ 23 * procedures_nodes (declared_procedures names)
 
 -- for every checked program whose trees are well formed
 abbrev pub RoomLaw : Type 0

@@ -1,12 +1,12 @@
 -- The code of statements, and of a routine.
-use Rattle.std.specs.Prelude.{ℕ, ◌+◌, ◌%◌, Bool, true, false, ◌&&◌, List, [], ◌∷◌, ◌++◌, length}
+use Rattle.std.specs.Prelude.{ℕ, ◌+◌, ◌%◌, Bool, true, false, ◌&&◌, List, [], ◌∷◌, ◌++◌, length, Option, Some, None}
 use Rattle.word86.specs.declared.width.Width.{Width}
 use Rattle.word86.specs.declared.width.Width.TheVariants as widths
 use Rattle.word86.specs.declared.operation.UnaryOperation.TheVariants as unary
 use Rattle.word86.specs.declared.operation.BinaryOperation.TheVariants as binary
 use Rattle.plm_type.specs.declared.program.Counting.{Counting}
 use Rattle.plm_type.specs.declared.program.Counting.TheVariants as counting
-use Rattle.plm_type.specs.Rest.{Expression, Scalar, Count, Statement, Empty, Assign, Evaluate, Return, ReturnValue, Enabling, Disabling, Halting, If, Block, While, Case, Iterate, Leaving, Round, Comparing, Stepping, Adding, Storing, Ending, Statements, End, Then, Returned, Procedure}
+use Rattle.plm_type.specs.Rest.{Anchor, InObject, OnScreen, Behind, There, Subscripts, NoSubscripts, Subscript, Refer, Target, ToPlain, ToVariable, ToPort, Targets, Only, Also, Expression, Scalar, Count, Statement, Empty, Assign, Evaluate, Return, ReturnValue, Enabling, Disabling, Halting, If, Block, While, Case, Iterate, Leaving, Round, Comparing, Stepping, Adding, Storing, Ending, Statements, End, Then, Returned, Procedure}
 use Rattle.icode.specs.declared.instruction.Instruction.{Instruction}
 use Rattle.icode.specs.declared.instruction.Instruction.TheVariants as op
 use Rattle.icode.specs.declared.instruction.LowByte.TheVariants as lows
@@ -17,9 +17,9 @@ use Rattle.icode.specs.declared.instruction.Test.{Test}
 use Rattle.icode.specs.declared.instruction.Test.TheVariants as test
 pub use Rattle.lower.specs.declared.kind.Kind.{Kind}
 pub use Rattle.lower.specs.declared.kind.Kind.TheVariants.{OfMain, Called, Giving, Serving}
-use Rattle.lower.specs.Expressions.{Computed, Name, Number, Operand, beside, dropped_code, expression_code, operand_of, place_of, targets_code}
+use Rattle.lower.specs.Expressions.{Computed, Name, Number, Operand, anchor_place, beside, dropped_code, expression_code, folded, leads_to, operand_of, place_of, subscripts_code, targets_code}
 use Rattle.lower.specs.LowBytes.{given_code, returned_code, low_code, low_load, is_narrow, is_byte}
-use Rattle.lower.specs.Conditions.{condition_code, test_of, always, compared, related}
+use Rattle.lower.specs.Conditions.{condition_code, test_of, always, compared, named, unless_named, compared_by}
 
 -- ---- statements
 
@@ -74,6 +74,44 @@ counts_bytes x bound = is_narrow x.width && is_byte bound
 abbrev pub index_read : (bytes : Bool) → Scalar → Instruction
 index_read true x = op.Low (lows.Load (place_of x.place)) highs.Kept
 index_read false x = op.Load x.width (place_of x.place)
+
+-- A constant for a variable with subscripts that are not known: they alone are computed, and the store has the constant. A variable behind a
+-- base, and one without subscripts, get it from the accumulator.
+abbrev pub constant_store : Width → Anchor → (offset : ℕ) → Subscripts → (k : ℕ) → Option Instruction
+constant_store width (InObject j start size) offset (Subscript stride e more) k = Some (op.StoreConstantAt width (anchor_place (InObject j start size) offset) k)
+constant_store width (OnScreen page start size) offset (Subscript stride e more) k = Some (op.StoreConstantAt width (anchor_place (OnScreen page start size) offset) k)
+constant_store width (InObject j start size) offset NoSubscripts k = None
+constant_store width (OnScreen page start size) offset NoSubscripts k = None
+constant_store width (Behind base) offset ss k = None
+constant_store width (There address) offset ss k = None
+
+abbrev pub unless_known_place : Option ℕ → Option Instruction → Option Instruction
+unless_known_place (Some offset) store = None
+unless_known_place None store = store
+
+-- the store of a constant to a target
+abbrev pub store_in : Target → (k : ℕ) → Option Instruction
+store_in (ToPlain width x) k = None
+store_in (ToVariable width (Refer module_index line anchor offset ss)) k = unless_known_place (leads_to (Some offset) ss) (constant_store width anchor offset ss k)
+store_in (ToPort width port) k = None
+
+-- the store of a value, of which this is known before any run, to one target
+abbrev pub known_store : Targets → (value : Option ℕ) → Option Instruction
+known_store (Only t) (Some k) = store_in t k
+known_store (Only t) None = None
+known_store (Also t ts) value = None
+
+-- the subscripts of a target's variable
+abbrev pub target_subscripts : Targets → Subscripts
+target_subscripts (Only (ToPlain width x)) = NoSubscripts
+target_subscripts (Only (ToVariable width (Refer module_index line anchor offset ss))) = ss
+target_subscripts (Only (ToPort width port)) = NoSubscripts
+target_subscripts (Also t ts) = NoSubscripts
+
+-- by a store of a constant, if there is one for it
+abbrev pub by_store : Option Instruction → (subscripts otherwise : List Instruction) → List Instruction
+by_store (Some store) subscripts otherwise = subscripts ++ store ∷ []
+by_store None subscripts otherwise = otherwise
 
 -- a statement without code: nothing stands for the empty one, nor for a block of such
 abbrev mutual
@@ -148,7 +186,7 @@ module _ (procedures : List Procedure) (around : Kind) where
   abbrev mutual
     pub statement_code : (exit : ℕ) → Statement → List Instruction
     statement_code exit Empty = []
-    statement_code exit (Assign ts e) = given_code procedures ts e ++ targets_code procedures ts
+    statement_code exit (Assign ts e) = by_store (known_store ts (folded e)) (subscripts_code procedures (target_subscripts ts)) (given_code procedures ts e ++ targets_code procedures ts)
     statement_code exit (Evaluate e) = dropped_code procedures e
     statement_code exit Return = returning around
     statement_code exit (ReturnValue width e) = returned_code procedures width e ++ (narrowed width ++ op.Leave ∷ [])
@@ -165,11 +203,13 @@ module _ (procedures : List Procedure) (around : Kind) where
     statement_code exit (Iterate a (Count o x bound step ss)) =
         let bytes = counts_bytes x bound in
         let comparison = compared bytes (beside (operand_of bound) (low_code procedures bound)) (beside (operand_of bound) (expression_code procedures bound)) in
+        let index = Name x.width (place_of x.place) in
+        let asked = unless_named (named bytes (within o) index (operand_of bound)) (index_read bytes x ∷ comparison) in
         let body = statements_code 0 ss in
-        let again = next_round o x (operand_of step) (expression_code procedures step) (length comparison + length body + 2) in
+        let again = next_round o x (operand_of step) (expression_code procedures step) (length asked + length body + 1) in
         returned_code procedures x.width a
-        ++ (op.Store x.width (place_of x.place) ∷ index_read bytes x
-        ∷ (comparison ++ (op.AheadUnless (related bytes (within o) (operand_of bound)) (length body + length again + exit) ∷ (body ++ again))))
+        ++ (op.Store x.width (place_of x.place)
+        ∷ (asked ++ (op.AheadUnless (compared_by bytes (within o) index (operand_of bound)) (length body + length again + exit) ∷ (body ++ again))))
     statement_code exit Leaving = []
     statement_code exit (Round l) = []
     statement_code exit (Comparing i e l) = []

@@ -899,23 +899,6 @@ fn send(
     }
 }
 
-/// The targets of an assignment get the value in the accumulator, from left to right.
-pub fn assign(
-    code: &mut Instructions,
-    callees: Callees<'_>,
-    first: &Target,
-    others: &[Target],
-) -> Result<(), Fault>
-    ensures code { OnOk result (code.new.items ≡ code.old.items ++ targets_code (procedures_of callees.entry.procedures.now) (targets_of (target_of first.now) others.now)) }
-    ensures memory { IsOkUnless result Fault.Memory }
-{
-    target(code, callees, first)?;
-    for other in others {
-        target(code, callees, other)?;
-    }
-    Ok(())
-}
-
 /// The code of an expression whose value is dropped.
 pub fn dropped(
     code: &mut Instructions,

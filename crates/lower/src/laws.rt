@@ -34,7 +34,7 @@ pub fn checked_runs_are_allowed()
     ensures { RunsLaw }
 {}
 
-/// The code of a checked program whose trees are well formed takes at most 41 bytes of a ROM for each node of the program, and 5 for
+/// The code of a checked program whose trees are well formed takes at most 23 bytes of a ROM for each node of the program, and 5 for
 /// main's end; 12 bytes for each procedure are left of that.
 pub fn code_has_room()
     ensures { RoomLaw }

@@ -1,6 +1,7 @@
 //! From the trees of a checked program to its intermediate code.
 #![tactic(auto)]
 
+mod assignments;
 mod callees;
 mod cases;
 mod conditions;

@@ -3,16 +3,16 @@
 ghost use Rattle.std.specs.Prelude.{◌≡◌, ◌++◌, ◌∷◌, [], ◌+◌, false, length, IfOk, OnOk, IsOkUnless};
 ghost use Rattle.plm_type.specs.View.{expression_of, procedures_of, scalar_of};
 ghost use Rattle.plm_type.specs.declared.program.Counting.TheVariants.{Up};
-ghost use Rattle.lower.specs.Expressions.{operand_of, beside, expression_code};
+ghost use Rattle.lower.specs.Expressions.{Name, operand_of, place_of, beside, expression_code};
 ghost use Rattle.lower.specs.Statements.{while_loop, counts_bytes, index_read, within, next_with_sign, next_by_number, add_pushed, next_round};
-ghost use Rattle.lower.specs.Conditions.{always, compared, condition_code, test_of};
+ghost use Rattle.lower.specs.Conditions.{always, compared, named, unless_named, compared_by, condition_code, test_of};
 ghost use Rattle.lower.specs.LowBytes.{low_code};
 ghost use Rattle.lower.specs.Inner.Put.{operand_shown};
 ghost use Rattle.icode.specs.declared.instruction.Instruction.TheVariants.{Back};
 ghost use Rattle.lower.specs.Inner.Loops.{counting, iterating};
 
 use crate::callees::Callees;
-use crate::conditions::{always, condition, related};
+use crate::conditions::{always, condition, named, related, settle};
 use crate::expressions::{known, right_of};
 use crate::low_bytes::{is_byte, is_narrow, low_load, low_right_of};
 use crate::put::{Operand, ROOM, add, distance, put};
@@ -77,17 +77,17 @@ fn tested_loop(
 // A round, if its test holds, and the end of it.
 fn count(
     code: &mut Instructions,
-    compared: &[Instruction],
+    asked: &[Instruction],
     test: Test,
     body: &[Instruction],
     again: &[Instruction],
     exit: usize,
 ) -> Result<(), Fault>
-    ensures code { OnOk result (code.new.items ≡ code.old.items ++ counting compared.now test body.now again.now exit) }
+    ensures code { OnOk result (code.new.items ≡ code.old.items ++ counting asked.now test body.now again.now exit) }
     ensures memory { IsOkUnless result Fault.Memory }
 {
     let over = distance(distance(body.len(), again.len())?, exit)?;
-    add(code, compared)?;
+    add(code, asked)?;
     put(code, Instruction::AheadUnless(test, over))?;
     add(code, body)?;
     add(code, again)
@@ -141,6 +141,27 @@ fn right_operand(
     }
 }
 
+// What is computed before the test of a bound, and the test.
+fn bound_test(
+    code: &mut Instructions,
+    callees: Callees<'_>,
+    bytes: bool,
+    relation: Relation,
+    index: Scalar,
+    bound: &Expression,
+) -> Result<Test, Fault>
+    ensures code { OnOk result (code.new.items ≡ code.old.items ++ unless_named (named bytes relation (Name (scalar_of index).width (place_of (scalar_of index).place)) (operand_of (expression_of bound.now))) (index_read bytes (scalar_of index) ∷ compared bytes (beside (operand_of (expression_of bound.now)) (low_code (procedures_of callees.entry.procedures.now) (expression_of bound.now))) (beside (operand_of (expression_of bound.now)) (expression_code (procedures_of callees.entry.procedures.now) (expression_of bound.now))))) }
+    ensures test { IfOk result (λ t. t ≡ compared_by bytes relation (Name (scalar_of index).width (place_of (scalar_of index).place)) (operand_of (expression_of bound.now))) }
+    ensures memory { IsOkUnless result Fault.Memory }
+{
+    let Scalar { width, place } = index;
+    let before = code.len();
+    put(code, index_read(bytes, index))?;
+    let right = right_operand(code, callees, bytes, bound)?;
+    let named = named(bytes, relation, width, place, right);
+    Ok(settle(code, before, named, related(bytes, relation, right)))
+}
+
 /// DO with an index, whose first value is in the accumulator.
 pub fn iterate(
     code: &mut Instructions,
@@ -155,9 +176,17 @@ pub fn iterate(
 {
     let Scalar { width, place } = rounds.index;
     let bytes = counts_bytes(rounds.index, &rounds.bound);
-    let mut compared = Vec::new(alloc);
-    let bound = right_operand(&mut compared, callees, bytes, &rounds.bound)?;
-    let before = distance(distance(compared.len(), body.len())?, 2)?;
+    let relation = within(rounds.counting);
+    let mut asked = Vec::new(alloc);
+    let test = bound_test(
+        &mut asked,
+        callees,
+        bytes,
+        relation,
+        rounds.index,
+        &rounds.bound,
+    )?;
+    let before = distance(distance(asked.len(), body.len())?, 1)?;
     let again = next_round(
         alloc,
         callees,
@@ -167,9 +196,7 @@ pub fn iterate(
         before,
     )?;
     put(code, Instruction::Store(width, place))?;
-    put(code, index_read(bytes, rounds.index))?;
-    let test = related(bytes, within(rounds.counting), bound);
-    count(code, &compared, test, body, &again, exit)
+    count(code, &asked, test, body, &again, exit)
 }
 
 // The end of a round: the step is added, and a next round begins `before` instructions back, unless the sum left the range of the index.

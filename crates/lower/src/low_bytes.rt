@@ -5,7 +5,7 @@ ghost use Rattle.plm_type.specs.View.{anchor_of, expression_of, procedures_of, r
 ghost use Rattle.plm_type.specs.Rest.{Embedded, Input, Variable};
 ghost use Rattle.word86.specs.declared.width.Width.TheVariants as widths;
 ghost use Rattle.lower.specs.Expressions.{unary_folded, folded, Number, operand_of, beside};
-ghost use Rattle.lower.specs.LowBytes.{operand_code, low_changing, low_top, direct_of, is_one_step, low_constant, low_operation, low_load, low_reading, low_code, is_narrow, takes_byte, take_bytes, returned_code, given_code, direct_gives, gives_by, is_byte};
+ghost use Rattle.lower.specs.LowBytes.{operand_code, low_changing, low_top, direct_of, is_one_step, low_constant, low_operation, low_load, low_reading, low_code, is_narrow, takes_byte, take_bytes, returned_code, direct_gives, gives_by, is_byte};
 ghost use Rattle.lower.specs.Inner.Expressions.{binary_value_of, operation_value, chain_value, unknown_code};
 ghost use Rattle.lower.specs.Inner.LowBytes.{bytes_from, low_unary_code, low_given, low_beside, low_code_of, low_received, low_unknown_code, low_operation_code, low_chain_code, counted_one, whole_count, left_code};
 ghost use Rattle.lower.specs.Inner.Put.{operand_shown, name_of};
@@ -636,9 +636,9 @@ fn takes_byte(to: &Target) -> bool
     }
 }
 
-// Whether it is all that each target gets.
+/// Whether the low byte is all that each target gets.
 #[tactic(auto, using(crate::proofs::LowTrees::targets_take))]
-fn take_bytes(first: &Target, others: &[Target]) -> bool
+pub fn take_bytes(first: &Target, others: &[Target]) -> bool
     ensures { result ≡ take_bytes (targets_of (target_of first.now) others.now) }
 {
     let mut all = takes_byte(first);
@@ -662,23 +662,5 @@ pub fn returned(
     match width {
         Width::Byte => low(code, callees, value),
         Width::Word => expression(code, callees, value),
-    }
-}
-
-/// The code of the value for targets.
-pub fn given(
-    code: &mut Instructions,
-    callees: Callees<'_>,
-    first: &Target,
-    others: &[Target],
-    value: &Expression,
-) -> Result<(), Fault>
-    ensures code { OnOk result (code.new.items ≡ code.old.items ++ given_code (procedures_of callees.entry.procedures.now) (targets_of (target_of first.now) others.now) (expression_of value.now)) }
-    ensures memory { IsOkUnless result Fault.Memory }
-{
-    if take_bytes(first, others) {
-        low(code, callees, value)
-    } else {
-        expression(code, callees, value)
     }
 }

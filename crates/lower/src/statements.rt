@@ -2,25 +2,26 @@
 
 ghost use Rattle.std.specs.Prelude.{◌≡◌, ◌++◌, ◌+◌, ◌∷◌, [], length, map, vec_items, IfOk, OnOk, IsOkUnless};
 ghost use Rattle.icode.specs.declared.instruction.Instruction.TheVariants as op;
-ghost use Rattle.plm_type.specs.View.{statement_of, statements_of, expression_of, target_of, targets_of, loop_of, procedures_of};
+ghost use Rattle.plm_type.specs.View.{statement_of, statements_of, expression_of, loop_of, procedures_of};
 ghost use Rattle.plm_type.specs.Rest.{While, Case, Iterate};
-ghost use Rattle.lower.specs.Expressions.{targets_code, expression_code, dropped_code};
+ghost use Rattle.lower.specs.Expressions.{expression_code, dropped_code};
 ghost use Rattle.lower.specs.Conditions.{condition_code, test_of};
-ghost use Rattle.lower.specs.LowBytes.{given_code, returned_code};
+ghost use Rattle.lower.specs.LowBytes.{returned_code};
 ghost use Rattle.lower.specs.Statements.{returning, narrowed, statement_code, statements_code, cases_code, over, failing, choosing, ending, routine_code};
 ghost use Rattle.lower.specs.Inner.Statements.{branching};
 
+use crate::assignments::assignment;
 use crate::callees::Callees;
 use crate::cases::switch;
 use crate::conditions::condition;
-use crate::expressions::{assign, dropped, expression};
+use crate::expressions::{dropped, expression};
 use crate::kind::Kind;
 use crate::loops::{iterate, while_loop};
-use crate::low_bytes::{given, returned};
+use crate::low_bytes::returned;
 use crate::put::{ROOM, add, distance, put};
 use crate::silence::{all_stay, are_silent, exit_before, with_code};
 use icode::Instruction;
-use plm_type::{Expression, Loop, Statement, Target, trees_have_their_lists};
+use plm_type::{Expression, Loop, Statement, trees_have_their_lists};
 use std::alloc::Global;
 use word86::{Fault, UnaryOperation, Width};
 
@@ -105,21 +106,6 @@ fn failing(silent: bool, arm: &[Instruction], exit: usize) -> Result<usize, Faul
 }
 
 impl Around<'_> {
-    // The code of assignments.
-    fn assignment(
-        self,
-        code: &mut Instructions,
-        first: &Target,
-        others: &[Target],
-        value: &Expression,
-    ) -> Result<(), Fault>
-        ensures code { OnOk result (code.new.items ≡ code.old.items ++ (given_code (procedures_of self.entry.callees.procedures.now) (targets_of (target_of first.now) others.now) (expression_of value.now) ++ targets_code (procedures_of self.entry.callees.procedures.now) (targets_of (target_of first.now) others.now))) }
-        ensures memory { IsOkUnless result Fault.Memory }
-    {
-        given(code, self.callees, first, others, value)?;
-        assign(code, self.callees, first, others)
-    }
-
     // The code of RETURN with a value.
     fn value_return(
         self,
@@ -170,7 +156,9 @@ impl Around<'_> {
         trees_have_their_lists();
         match statement {
             Statement::Empty => Ok(()),
-            Statement::Assign(first, others, value) => self.assignment(code, first, others, value),
+            Statement::Assign(first, others, value) => {
+                assignment(code, self.callees, first, others, value)
+            }
             Statement::Evaluate(value) => dropped(code, self.callees, value),
             Statement::Return => leave(code, self.kind),
             Statement::ReturnValue(width, value) => self.value_return(code, *width, value),

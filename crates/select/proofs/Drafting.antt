@@ -1,9 +1,16 @@
 -- The drafts of steps.
-use Rattle.std.proofs.Common.{◌≡◌, ◌∙◌, ℕ, ◌+◌, ◌<◌, List, [], length, map, get_or, sym, ap, subst, arith, inl, inr}
+use Rattle.std.proofs.Common.{◌≡◌, ◌∙◌, ℕ, ◌+◌, ◌<◌, List, [], ◌++◌, length, map, get_or, sym, ap, subst, arith, inl, inr, length-append}
 use Rattle.std.proofs.lemmas.Bool.{cases_lt}
 use Rattle.std.proofs.lemmas.List.{length-map, get_or-map}
+use Rattle.i86_table.specs.declared.open.Open.{Open}
+use Rattle.i86_code.specs.Forms.{word_bytes}
+use Rattle.i86_code.specs.Open.{front_of, back_of, open_bytes}
 use Rattle.select.specs.declared.part.Step.{Step}
 use Rattle.select.specs.Inner.Assembly.{nothing, drafted_bytes, IsCoded}
+
+-- a word has two bytes
+pub open_long : (x : Open) (n : ℕ) → length (open_bytes x n) ≡ length (front_of x) + 2 + length (back_of x)
+open_long x n = let e = length-append (front_of x) (word_bytes n ++ back_of x) in omega (arith, e)
 
 -- as many drafts as steps
 pub as_many : {A : Type 0} (f : A → List ℕ) (ds : List A) (xs : List Step) → map f ds ≡ map drafted_bytes xs → length ds ≡ length xs

@@ -27,6 +27,7 @@ use Rattle.word86.specs.Place.{covers, held}
 use Rattle.word86.specs.Place as word_places
 use Rattle.i86_table.specs.declared.registers.Register16.TheVariants.{Ax, Bx, Cx, Dx, Bp, Sp}
 use Rattle.i86_table.specs.declared.registers.Register8.TheVariants.{Al, Ah, Cl, Ch}
+use Rattle.i86_table.specs.declared.registers.Segment.{Segment}
 use Rattle.i86_table.specs.declared.registers.Segment.TheVariants as segments
 use Rattle.i86_table.specs.declared.instruction.Base.TheVariants as bases
 use Rattle.i86_table.specs.declared.instruction.RmOperand.TheVariants as rm
@@ -43,6 +44,7 @@ use Rattle.i86_table.specs.declared.instruction.Instr.{Instr}
 use Rattle.i86_table.specs.declared.instruction.Instr.TheVariants as i
 use Rattle.i86_table.specs.declared.flags.Flags as flags_type
 use Rattle.i86_table.specs.declared.open.Use.TheVariants.{Operate}
+use Rattle.i86_table.specs.declared.open.Open.{Open}
 use Rattle.i86_table.specs.declared.open.Open.TheVariants as opens
 use Rattle.i86_table.specs.Open.{closed}
 use Rattle.i86_table.specs.Condition.{holds}
@@ -74,9 +76,9 @@ use Rattle.select.specs.declared.part.Step.{Step}
 use Rattle.select.specs.declared.part.Step.TheVariants.{Plain, GotoIf}
 use Rattle.select.specs.Linked.{Stands}
 use Rattle.select.specs.Rows
-use Rattle.select.specs.Rows.{load_number, accumulator_gets, exchange, copy, clear_byte, clear_high, push, pop, alu, alu_number, core, narrow, narrow_right, then_narrow, narrow_sum, loads, loads_right, stores, spot, row, first_of, plain, direct, by_constant, by_read, from_stack, commutes, fails, without_sign, registers_of, given_back, arithmetic, low_number, byte_alu, low_gets, low_on, cleared, low_row, low_compared}
+use Rattle.select.specs.Rows.{load_number, accumulator_gets, exchange, copy, clear_byte, clear_high, push, pop, alu, alu_number, core, narrow, narrow_right, then_narrow, narrow_sum, loads, loads_right, stores, spot, row, first_of, plain, direct, by_constant, by_read, from_stack, commutes, fails, without_sign, registers_of, given_back, arithmetic, low_number, byte_alu, low_gets, low_on, cleared, low_row, low_compared, compares_byte, compares_word, tests_byte}
 use Rattle.select.specs.Inner.Rows.{segment_of}
-use Rattle.icode.specs.Made.{constant_in}
+use Rattle.icode.specs.Made.{asked_constant}
 use Rattle.icode.specs.Runs.{Leads, Comes}
 use Rattle.select.specs.Promise.{Allowed, Counted, Image, IsSelected, next_of, place_of}
 use Rattle.select.proofs.Rests.{Laws}
@@ -758,6 +760,22 @@ module _ (laws : Laws) (x : Image) (all : IsSelected x)
       (omega arith) (g0, v ∷ stack_of ws, Cores.exchanges laws x.find x.words x.main x.handler given Bx refl refl g (v ∷ stack_of ws), (g1, stack_of ws, λ q. refl, (refl, refl))) refl sm.0 sm.1 (tt, refl, refl, tt, refl, refl, refl)
       (λ at is z. Offers.store_offered x.find x.words x.main x.handler given width y (Some bases.Bx) v0 z g1 (stack_of ws) ∙ ap (λ q. writes q width (output_takes width g1) (Own z g1 (stack_of ws) false given)) (behind_found width y g.ax at is))
 
+  -- the address goes to BX before AX has the constant
+  store_constant_row : (width : Width) (y : Place) (c : ℕ) → RowFollows (op.StoreConstantAt width y c)
+  store_constant_row width y c r k e g n go a inv ws p sm =
+      let v0 = address x.offsets x.sizes y 0 in
+      let g0 = Cores.swapped laws x.find x.words x.main x.handler given Bx g in
+      let w = Cores.accumulator_set laws x.find x.words x.main x.handler given c g0 (stack_of ws) in
+      let h = w.0 in
+      let s = rows_stand r k (op.StoreConstantAt width y c) e in
+      storing r k (op.StoreConstantAt width y c) e g n go a inv ws p sm width (exchange Bx ∷ accumulator_gets c ∷ []) (closed (stores width (Some bases.Bx) (segment_of y)) v0) (found x.offsets x.sizes width y (address x.offsets x.sizes y g.ax)) c ws h refl
+      (s.0, s.1, s.2, (s.3.0, s.3.1, s.3.2, Chains.settled x.code x.words x.offsets x.places (x.at r) x.sizes (stores width (Some bases.Bx)) y [] s.3.0 (place r (k + 1)) s.3.3))
+      (omega arith) (g0, stack_of ws, Cores.exchanges laws x.find x.words x.main x.handler given Bx refl refl g (stack_of ws), w.1) w.2 ((all.made r).numbered k (op.StoreConstantAt width y c) e) sm
+      (changes_then addressed g g0 h (tt, refl, refl, tt, refl, refl, refl) (changes_wider addressed just_accumulator g0 h refl w.3))
+      (λ at is z. Offers.store_offered x.find x.words x.main x.handler given width y (Some bases.Bx) v0 z h (stack_of ws)
+      ∙ ap (λ b. writes (place_in x.find (segment_of y) ((b + v0) % 65536) (bytes width)) width (output_takes width h) (Own z h (stack_of ws) false given)) w.3.3
+      ∙ ap (λ q. writes q width (output_takes width h) (Own z h (stack_of ws) false given)) (behind_found width y g.ax at is))
+
   store_there_row : (width : Width) → RowFollows (op.StoreThere width)
   unfolding there
   store_there_row width r k e g n go a inv [] p sm = bad r k (op.StoreThere width) e g n go a inv [] p sm refl
@@ -1116,6 +1134,40 @@ module _ (laws : Laws) (x : Image) (all : IsSelected x)
         (λ w ow z c2 v lt m l. looser m 10 20 (d v) (Own z (compared_low v) (stack_of ws) false given) (omega arith)
         (branches r k ins e g n go a inv ws p sm (fails (without_sign o)) (stands o (g.ax % 256) v) (Touch (Read widths.Byte w) d) (u ∙ ap (λ q. loaded widths.Byte q d) ow) t g.ax ws (compared_low v) (v, lt, refl) (Flags.byte_fails_where laws o (g.ax % 256) v g.flags (omega arith) lt) refl a sm (stays (changes ins) g) z c2 m l))
 
+    -- an instruction reads what lies at a place, and leaves flags by which a jump goes
+    asks_there : (width : Width) (y : Place) (f : Segment → Open) (cond : Condition) (so : ℕ → Bool) (flags : ℕ → flags_type.Flags) (t : ℕ)
+        → does_so r k ins e g n go a inv ws p sm ≡ loaded width (found x.offsets x.sizes width y (address x.offsets x.sizes y 0)) (λ v. At r (if so v then k + 1 else t) g.ax ws)
+        → Chain r (place r k) (Rows.on_place f y ∷ GotoIf cond (first r t) ∷ []) (place r (k + 1))
+        → ((z : ℕ) → offered x.find x.words x.main x.handler (closed (f (segment_of y)) (address x.offsets x.sizes y 0)) z g (stack_of ws) false given
+        ≡ reads (place_in x.find (segment_of y) (address x.offsets x.sizes y 0) (bytes width)) width (λ v. Own z (set_flags g (flags v)) (stack_of ws) false given))
+        → ((v : ℕ) → v < values width → holds cond (flags v) ≡ not (so v)) → Fl n 8 (At r k g.ax ws) (Own (place r k) g (stack_of ws) false given)
+    asks_there width y f cond so flags t u c off tells =
+        let v0 = address x.offsets x.sizes y 0 in
+        let d = λ (v : ℕ). At r (if so v then k + 1 else t) g.ax ws in
+        let after = λ (v : ℕ). set_flags g (flags v) in
+        let jump = GotoIf cond (first r t) ∷ [] in
+        reading r k ins e g n go a inv ws p sm width [] (closed (f (segment_of y)) v0) jump (place r (k + 1)) (found x.offsets x.sizes width y v0) d g after u
+        (Chains.settled x.code x.words x.offsets x.places (x.at r) x.sizes f y jump (place r k) (place r (k + 1)) c) (omega arith) (refl, refl)
+        (λ at is z. off z ∙ ap (λ q. reads q width (λ v. Own z (after v) (stack_of ws) false given)) (place_found width y v0 at is))
+        (λ w ow z c2 v lt m l. looser m 10 20 (d v) (Own z (after v) (stack_of ws) false given) (omega arith)
+        (branches r k ins e g n go a inv ws p sm cond (so v) (Touch (Read width w) d) (u ∙ ap (λ q. loaded width q d) ow) t g.ax ws (after v) (v, lt, refl) (tells v lt) refl a sm (stays (changes ins) g) z c2 m l))
+
+    named_byte_jumps : (o : Relation) (y : Place) (c t : ℕ) → does_so r k ins e g n go a inv ws p sm ≡ jumped x.offsets x.sizes (test.Named o widths.Byte y c) r (k + 1) t g.ax ws → Chain r (place r k) (Rows.unless (test.Named o widths.Byte y c) (first r t)) (place r (k + 1)) → Fl n 8 (At r k g.ax ws) (Own (place r k) g (stack_of ws) false given)
+    named_byte_jumps o y c t u s =
+        asks_there widths.Byte y (compares_byte c) (fails (without_sign o)) (λ v. stands o v (c % 256)) (λ v. (operated Cmp widths.Byte v (c % 256) g.flags).flags) t u s (λ z. refl)
+        (λ v l. Flags.byte_fails_where laws o v (c % 256) g.flags l (omega arith))
+
+    named_word_jumps : (o : Relation) (y : Place) (c t : ℕ) → c < 65536 → does_so r k ins e g n go a inv ws p sm ≡ jumped x.offsets x.sizes (test.Named o widths.Word y c) r (k + 1) t g.ax ws → Chain r (place r k) (Rows.unless (test.Named o widths.Word y c) (first r t)) (place r (k + 1)) → Fl n 8 (At r k g.ax ws) (Own (place r k) g (stack_of ws) false given)
+    named_word_jumps o y c t small u s =
+        let whole : c ≡ c % 65536 = omega (arith, small) in
+        asks_there widths.Word y (compares_word c) (fails o) (λ v. stands o v (c % 65536)) (λ v. (operated Cmp widths.Word v c g.flags).flags) t u s (λ z. refl)
+        (λ v l. Flags.fails_where laws o v c g.flags l small ∙ ap (λ q. not (stands o v q)) whole)
+
+    odd_named_jumps : (y : Place) (t : ℕ) → does_so r k ins e g n go a inv ws p sm ≡ jumped x.offsets x.sizes (test.OddNamed y) r (k + 1) t g.ax ws → Chain r (place r k) (Rows.unless (test.OddNamed y) (first r t)) (place r (k + 1)) → Fl n 8 (At r k g.ax ws) (Own (place r k) g (stack_of ws) false given)
+    odd_named_jumps y t u s =
+        asks_there widths.Byte y (tests_byte 1) conditions.Equal is_odd (λ v. tested widths.Byte v 1 g.flags) t u s (λ z. refl)
+        (λ v l. let e : v ≡ v % 256 = omega (arith, l) in Flags.no_bit laws widths.Byte v 1 g.flags ∙ ap (λ q. nat_eq (bit_and q 1) 0) e ∙ bit_is v)
+
   module _ (r : Routine) (k : ℕ) (ins : Instruction) (e : slice_get (x.icode r) k ≡ Some ins) (g : Working) (n : ℕ) (go : Later n) (a : g.ax < 65536) (inv : Inv g) where
     abbrev DoesSo : List Word → Action Access machine.Context
     DoesSo ws = run x.offsets x.sizes (x.icode r) ins r (k + 1) g.ax ws
@@ -1142,22 +1194,19 @@ module _ (laws : Laws) (x : Image) (all : IsSelected x)
         (branches r k ins e g n go a inv (Value v ∷ ws) p sm (fails (without_sign o)) (stands o (v % 256) (g.ax % 256)) (Silent d) u t g.ax ws h refl (Flags.byte_fails_where laws o (v % 256) (g.ax % 256) h1.flags (omega arith) (omega arith)) refl a sm.1
         (subst (λ q. OnlyChanges q g h) right (refl, tt, refl, refl, refl, refl, refl)) c.3.0 c.3.3)
 
-    test_jumps : (t : Test) (target : ℕ) → of_test t ≡ changes ins → ((o : Relation) (v : ℕ) → t ≡ test.Constant o v → v < 65536) → (ws : List Word) (p : P (At r k g.ax ws)) (sm : Small ws)
+    test_jumps : (t : Test) (target : ℕ) → of_test t ≡ changes ins → asked_constant t < 65536 → (ws : List Word) (p : P (At r k g.ax ws)) (sm : Small ws)
         → DoesSo ws ≡ jumped x.offsets x.sizes t r (k + 1) target g.ax ws → Chain r (place r k) (Rows.unless t (first r target)) (place r (k + 1)) → Fl n 8 (At r k g.ax ws) (Own (place r k) g (stack_of ws) false given)
     test_jumps test.Odd target right num ws p sm u c = odd_jumps r k ins e g n go a inv ws p sm target u c
-    test_jumps (test.Constant o v) target right num ws p sm u c = constant_jumps r k ins e g n go a inv ws p sm o v target (num o v refl) u c
+    test_jumps (test.Constant o v) target right num ws p sm u c = constant_jumps r k ins e g n go a inv ws p sm o v target num u c
     test_jumps (test.Plain o widths.Byte y) target right num ws p sm u c = byte_jumps r k ins e g n go a inv ws p sm o y target right u c
     test_jumps (test.Plain o widths.Word y) target right num ws p sm u c = word_jumps r k ins e g n go a inv ws p sm o y target u c
     test_jumps (test.Low o (rights.Constant v)) target right num ws p sm u c = low_constant_jumps r k ins e g n go a inv ws p sm o v target u c
     test_jumps (test.Low o (rights.Plain y)) target right num ws p sm u c = low_plain_jumps r k ins e g n go a inv ws p sm o y target u c
     test_jumps (test.Low o rights.Top) target right num ws p sm u c = low_top_jumps o target right ws p sm u c
     test_jumps (test.Top o) target right num ws p sm u c = top_jumps o target right ws p sm u c
-
-  ahead_numbered : (t : Test) (m : ℕ) → constant_in (op.AheadUnless t m) < 65536 → (o : Relation) (v : ℕ) → t ≡ test.Constant o v → v < 65536
-  ahead_numbered t m h o v is = subst (λ z. constant_in (op.AheadUnless z m) < 65536) is h
-
-  back_numbered : (t : Test) (m : ℕ) → constant_in (op.BackUnless t m) < 65536 → (o : Relation) (v : ℕ) → t ≡ test.Constant o v → v < 65536
-  back_numbered t m h o v is = subst (λ z. constant_in (op.BackUnless z m) < 65536) is h
+    test_jumps (test.Named o widths.Byte y v) target right num ws p sm u c = named_byte_jumps r k ins e g n go a inv ws p sm o y v target u c
+    test_jumps (test.Named o widths.Word y v) target right num ws p sm u c = named_word_jumps r k ins e g n go a inv ws p sm o y v target num u c
+    test_jumps (test.OddNamed y) target right num ws p sm u c = odd_named_jumps r k ins e g n go a inv ws p sm y target u c
 
   -- ---- a table
 
@@ -1437,14 +1486,15 @@ module _ (laws : Laws) (x : Image) (all : IsSelected x)
     row_follows (op.StoreAt width y) = store_at_row width y
     row_follows (op.StoreThere width) = store_there_row width
     row_follows (op.StoreTop width y) = store_top_row width y
+    row_follows (op.StoreConstantAt width y c) = store_constant_row width y c
     row_follows (op.Send width) = send_row width
     row_follows (op.SendTo width port) = send_to_row width port
     row_follows (op.Receive width) = receive_row width
     row_follows (op.ReceiveFrom width port) = receive_from_row width port
     row_follows (op.Ahead m) = λ r k e g n go a inv ws p sm. jumps r k (op.Ahead m) e g n go a inv ws p sm (k + 1 + m) refl (rows_stand r k (op.Ahead m) e)
-    row_follows (op.AheadUnless t m) = λ r k e g n go a inv ws p sm. test_jumps r k (op.AheadUnless t m) e g n go a inv t (k + 1 + m) refl (ahead_numbered t m ((all.made r).numbered k (op.AheadUnless t m) e)) ws p sm refl (rows_stand r k (op.AheadUnless t m) e)
+    row_follows (op.AheadUnless t m) = λ r k e g n go a inv ws p sm. test_jumps r k (op.AheadUnless t m) e g n go a inv t (k + 1 + m) refl ((all.made r).numbered k (op.AheadUnless t m) e) ws p sm refl (rows_stand r k (op.AheadUnless t m) e)
     row_follows (op.Back m) = λ r k e g n go a inv ws p sm. jumps r k (op.Back m) e g n go a inv ws p sm (k + 1 - m) refl (rows_stand r k (op.Back m) e)
-    row_follows (op.BackUnless t m) = λ r k e g n go a inv ws p sm. test_jumps r k (op.BackUnless t m) e g n go a inv t (k + 1 - m) refl (back_numbered t m ((all.made r).numbered k (op.BackUnless t m) e)) ws p sm refl (rows_stand r k (op.BackUnless t m) e)
+    row_follows (op.BackUnless t m) = λ r k e g n go a inv ws p sm. test_jumps r k (op.BackUnless t m) e g n go a inv t (k + 1 - m) refl ((all.made r).numbered k (op.BackUnless t m) e) ws p sm refl (rows_stand r k (op.BackUnless t m) e)
     row_follows (op.Next width y s m) = next_row width y s m
     row_follows (op.Switch m) = switch_row m
     row_follows (op.Case m) = case_row m

@@ -29,6 +29,9 @@ unless_size (test.Top o) a b = refl
 unless_size (test.Low o (rights.Constant k)) a b = refl
 unless_size (test.Low o (rights.Plain x)) a b = refl
 unless_size (test.Low o rights.Top) a b = refl
+unless_size (test.Named o widths.Byte x k) a b = refl
+unless_size (test.Named o widths.Word x k) a b = refl
+unless_size (test.OddNamed x) a b = refl
 
 again_size : (w : Width) (k a b : ℕ) → length (again w k a) ≡ length (again w k b)
 again_size widths.Byte k a b = by (nat_le 256 k)
@@ -57,6 +60,7 @@ row_size first part saves p (op.Store width x) = refl
 row_size first part saves p (op.StoreAt width x) = refl
 row_size first part saves p (op.StoreThere width) = refl
 row_size first part saves p (op.StoreTop width x) = refl
+row_size first part saves p (op.StoreConstantAt width x k) = refl
 row_size first part saves p (op.Send width) = refl
 row_size first part saves p (op.SendTo width port) = refl
 row_size first part saves p (op.Receive width) = refl

@@ -7,7 +7,7 @@ use Rattle.i86_table.specs.declared.instruction.Instr.TheVariants as i
 use Rattle.i86_table.specs.Arithmetic.{sign_extended}
 use Rattle.i86_table.specs.Contexts.{further}
 use Rattle.i86_code.specs.declared.form.Form.{Form}
-use Rattle.i86_code.specs.Forms.{word_bytes, form_bytes, prefix_bytes, field_bytes, opcode_byte, Spells}
+use Rattle.i86_code.specs.Forms.{form_bytes, prefix_bytes, field_bytes, opcode_byte, Spells}
 use Rattle.i86_code.specs.Instructions.{instruction_of, instruction_from, byte_instruction, word_instruction}
 use Rattle.i86_code.specs.Writing.{form_of, bytes_of}
 use Rattle.select.specs.declared.sizes.Extent.{Extent}
@@ -17,11 +17,11 @@ use Rattle.select.specs.declared.part.Step.{Step}
 use Rattle.select.specs.declared.part.Step.TheVariants.{Plain, Refer, AtStep, Word, Goto, GotoIf}
 use Rattle.select.specs.Sizes.{start, extent_at, IsInReach, IsSettled, AreSettled}
 use Rattle.select.specs.Inner.Settling.{IsExtent, AreExtents}
-use Rattle.i86_code.specs.Open.{front_of}
 use Rattle.i86_table.specs.Inverse.{inverse}
 use Rattle.select.specs.Parts.{target_of, extent_of, IsSpelt, AreSpelt}
 use Rattle.select.specs.Inner.Assembly.{IsStepOf, nothing, AreSteps, distance, jump_bytes, branch_bytes, step_bytes, step_fixups, IsCoded}
 use Rattle.select.proofs.Starts.{start_more}
+use Rattle.select.proofs.Drafting.{open_long}
 use Rattle.select.proofs.Lengthening.{in_reach_or_not}
 
 -- ---- jumps
@@ -169,8 +169,8 @@ module _ (own : ℕ) (s : List ℕ) (k : ℕ) where
 
   done : (x : Step) → IsSettled s k (extent_of x) → IsCoded x → Done x
   done (Plain n) h c = ((c, refl), sym h)
-  done (Refer x n kind name) h c = ((c, refl, refl), length-append (front_of x) (word_bytes n) ∙ sym h)
-  done (AtStep x t) h c = ((c, refl, refl), length-append (front_of x) (word_bytes (start s t % 65536)) ∙ sym h)
+  done (Refer x n kind name) h c = ((c, refl, refl), open_long x n ∙ sym h)
+  done (AtStep x t) h c = ((c, refl, refl), open_long x (start s t % 65536) ∙ sym h)
   done (Word t) h c = ((refl, refl), sym h)
   done (Goto t) h c = jump_done t h
   done (GotoIf b t) h c = branch_done b t h

@@ -69,6 +69,7 @@ module _ (f g : ℕ → ℕ) (h j : ℕ → ℕ) (saves : Registers) (same : (k 
   row_same p (op.StoreAt w x) = refl
   row_same p (op.StoreThere w) = refl
   row_same p (op.StoreTop w x) = refl
+  row_same p (op.StoreConstantAt w x k) = refl
   row_same p (op.Send w) = refl
   row_same p (op.SendTo w port) = refl
   row_same p (op.Receive w) = refl
@@ -118,6 +119,9 @@ some_test (test.Top o) a = omega arith
 some_test (test.Low o (rights.Constant k)) a = omega arith
 some_test (test.Low o (rights.Plain x)) a = omega arith
 some_test (test.Low o rights.Top) a = omega arith
+some_test (test.Named o widths.Byte x k) a = omega arith
+some_test (test.Named o widths.Word x k) a = omega arith
+some_test (test.OddNamed x) a = omega arith
 
 some_low : (low : LowByte) (ns : List Instr) → 0 < length (low_row low ns)
 some_low (lows.Constant k) ns = omega arith
@@ -160,6 +164,7 @@ row_some saves (op.Store w x) = omega arith
 row_some saves (op.StoreAt w x) = omega arith
 row_some saves (op.StoreThere w) = omega arith
 row_some saves (op.StoreTop w x) = omega arith
+row_some saves (op.StoreConstantAt w x k) = omega arith
 row_some saves (op.Send w) = omega arith
 row_some saves (op.SendTo w port) = some_of (nat_le 256 port) _ _ _ _
 row_some saves (op.Receive w) = omega arith
@@ -228,6 +233,9 @@ test_inside many (test.Top o) a l = (tt, (tt, (l, tt)))
 test_inside many (test.Low o (rights.Constant k)) a l = (tt, (l, tt))
 test_inside many (test.Low o (rights.Plain x)) a l = (place_inside many x _ _, (l, tt))
 test_inside many (test.Low o rights.Top) a l = (tt, (tt, (l, tt)))
+test_inside many (test.Named o widths.Byte x k) a l = (place_inside many x _ _, (l, tt))
+test_inside many (test.Named o widths.Word x k) a l = (place_inside many x _ _, (l, tt))
+test_inside many (test.OddNamed x) a l = (place_inside many x _ _, (l, tt))
 
 low_inside : (many : ℕ) (low : LowByte) (ns : List Instr) → Inside many (low_row low ns)
 low_inside many (lows.Constant k) ns = plain_inside many (low_gets k ∷ ns)
@@ -276,6 +284,7 @@ module _ (many : ℕ) (f h : ℕ → ℕ) (saves : Registers) where
   row_inside p (op.StoreAt w x) to table = (tt, (tt, (place_inside many x _ _, tt)))
   row_inside p (op.StoreThere w) to table = (tt, (tt, (tt, tt)))
   row_inside p (op.StoreTop w x) to table = (tt, (place_inside many x _ _, tt))
+  row_inside p (op.StoreConstantAt w x k) to table = (tt, (tt, (place_inside many x _ _, tt)))
   row_inside p (op.Send w) to table = (tt, (tt, (tt, tt)))
   row_inside p (op.SendTo w port) to table = plain_inside many _
   row_inside p (op.Receive w) to table = (tt, plain_inside many (then_narrow w (i.In w ports.Dx)))

@@ -6,6 +6,7 @@ use Rattle.i86_table.specs.Arithmetic.{sign_extended}
 use Rattle.i86_table.specs.Inverse.{inverse}
 use Rattle.i86_table.specs.Contexts.{further}
 use Rattle.i86_table.specs.Open.{closed}
+use Rattle.i86_code.specs.Open.{back_of}
 use Rattle.select.specs.declared.part.Kind.{Kind}
 use Rattle.select.specs.declared.part.Kind.TheVariants.{Offset, Near, Case}
 use Rattle.select.specs.declared.part.Step.{Step}
@@ -20,6 +21,11 @@ module _ (offsets places : List ℕ) where
   value_at Near name behind = (slice_index places name + 65536 - behind % 65536) % 65536
   value_at Case name behind = slice_index places name
 
+-- where a word ends, behind which these bytes stand up to there
+abbrev pub word_end : (behind : List ℕ) → (there : ℕ) → ℕ
+word_end [] there = there
+word_end (b ∷ bs) there = word_end bs there - 1
+
 -- the instruction stands here, and the next one there
 abbrev pub StandsAt : (code : ℕ → Option (Instr × ℕ)) (here : ℕ) → Instr → (there : ℕ) → Type 0
 StandsAt code here n there = (size : ℕ) × (code here ≡ Some (n, size)) × (here + size ≡ there)
@@ -29,7 +35,7 @@ module _ (code : ℕ → Option (Instr × ℕ)) (words : ℕ → Option ℕ) (of
   -- From here up to there the code has a step whose target stands at that place. A jump may be short or long: what a context does at it is the same.
   abbrev pub Stands : (here there to : ℕ) → Step → Type 0
   Stands here there to (Plain n) = StandsAt code here n there
-  Stands here there to (Refer x n kind name) = StandsAt code here (closed x ((n + value_at offsets places kind name there) % 65536)) there
+  Stands here there to (Refer x n kind name) = StandsAt code here (closed x ((n + value_at offsets places kind name (word_end (back_of x) there)) % 65536)) there
   Stands here there to (AtStep x t) = StandsAt code here (closed x to) there
   Stands here there to (Word t) = (words here ≡ Some to) × (here + 2 ≡ there)
   Stands here there to (Goto t) =

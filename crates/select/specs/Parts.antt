@@ -6,7 +6,7 @@ use Rattle.i86_table.specs.Inverse.{inverse}
 use Rattle.i86_table.specs.Contexts.{further}
 use Rattle.i86_code.specs.Forms.{word_bytes, Spells}
 use Rattle.i86_code.specs.Writing.{bytes_of}
-use Rattle.i86_code.specs.Open.{front_of, IsOpen}
+use Rattle.i86_code.specs.Open.{front_of, back_of, open_bytes, IsOpen}
 use Rattle.select.specs.declared.sizes.Extent.{Extent}
 use Rattle.select.specs.declared.sizes.Extent.TheVariants.{Fixed, Jump}
 use Rattle.select.specs.declared.part.Kind.{Kind}
@@ -28,8 +28,8 @@ target_of (GotoIf c t) = t
 -- how many bytes a step has: a long jump has three, and where it has a condition, five
 abbrev pub extent_of : Step → Extent
 extent_of (Plain n) = Fixed (length (bytes_of n))
-extent_of (Refer x n k name) = Fixed (length (front_of x) + 2)
-extent_of (AtStep x t) = Fixed (length (front_of x) + 2)
+extent_of (Refer x n k name) = Fixed (length (front_of x) + 2 + length (back_of x))
+extent_of (AtStep x t) = Fixed (length (front_of x) + 2 + length (back_of x))
 extent_of (Word t) = Fixed 2
 extent_of (Goto t) = Jump t 3
 extent_of (GotoIf c t) = Jump t 5
@@ -41,8 +41,8 @@ fixup place kind name = record { place = place; kind = kind; name = name }
 -- counted from the part's beginning. A jump is short or long: its target is the same.
 abbrev pub IsSpelt : (own here there to : ℕ) → Step → List ℕ → List Fixup → Type 0
 IsSpelt own here there to (Plain n) b f = Spells b n × (f ≡ [])
-IsSpelt own here there to (Refer x n kind name) b f = IsOpen x × (b ≡ front_of x ++ word_bytes n) × (f ≡ fixup (here + length (front_of x)) kind name ∷ [])
-IsSpelt own here there to (AtStep x t) b f = IsOpen x × (b ≡ front_of x ++ word_bytes (to % 65536)) × (f ≡ fixup (here + length (front_of x)) Case own ∷ [])
+IsSpelt own here there to (Refer x n kind name) b f = IsOpen x × (b ≡ open_bytes x n) × (f ≡ fixup (here + length (front_of x)) kind name ∷ [])
+IsSpelt own here there to (AtStep x t) b f = IsOpen x × (b ≡ open_bytes x (to % 65536)) × (f ≡ fixup (here + length (front_of x)) Case own ∷ [])
 IsSpelt own here there to (Word t) b f = (b ≡ word_bytes (to % 65536)) × (f ≡ fixup here Case own ∷ [])
 IsSpelt own here there to (Goto t) b f =
     (f ≡ []) × (((d : ℕ) × Spells b (i.JumpShort d) × (further there (sign_extended d) ≡ to % 65536)) ⊎ ((d : ℕ) × Spells b (i.Jump d) × (further there d ≡ to % 65536)))

@@ -383,6 +383,16 @@ on_place x at = placed at (x segments.Ds) (x segments.Es)
 abbrev pub operates : AluOperation → Segment → Open
 operates f segment = opens.Word (Operate f) Ax (spot None segment)
 
+-- a comparison of what lies at a place with a constant, a byte or a word; the test of a byte's bits
+abbrev pub compares_byte : ℕ → Segment → Open
+compares_byte k segment = opens.CompareByte (spot None segment) (k % 256)
+
+abbrev pub compares_word : ℕ → Segment → Open
+compares_word k segment = opens.CompareWord (spot None segment) k
+
+abbrev pub tests_byte : (mask : ℕ) → Segment → Open
+tests_byte mask segment = opens.TestByte (spot None segment) mask
+
 abbrev pub sent : Width → (port : ℕ) → List Instr
 sent width port = if nat_le 256 port then load_number Dx port ∷ i.Out width ports.Dx ∷ [] else i.Out width (ports.Fixed port) ∷ []
 
@@ -488,6 +498,9 @@ unless (test.Plain o widths.Byte x) t = on_place (loads_right widths.Byte) x ∷
 unless (test.Plain o widths.Word x) t = on_place (operates Cmp) x ∷ GotoIf (fails o) t ∷ []
 unless (test.Top o) t = Plain (pop Cx) ∷ Plain (alu Cmp Cx Ax) ∷ GotoIf (fails o) t ∷ []
 unless (test.Low o x) t = low_compared x (GotoIf (fails (without_sign o)) t)
+unless (test.Named o widths.Byte x k) t = on_place (compares_byte k) x ∷ GotoIf (fails (without_sign o)) t ∷ []
+unless (test.Named o widths.Word x k) t = on_place (compares_word k) x ∷ GotoIf (fails o) t ∷ []
+unless (test.OddNamed x) t = on_place (tests_byte 1) x ∷ GotoIf conditions.Equal t ∷ []
 
 -- After a step was added: the sum stays in the range of its width. INC leaves the carry as it was, and its sum is 0 where it does not.
 abbrev pub stays_in_range : (step : ℕ) → Condition
@@ -544,6 +557,7 @@ module _ (first : ℕ → ℕ) (part : ℕ → ℕ) (saves : Registers) where
   row p (op.StoreAt width x) = Plain (exchange Bx) ∷ Plain (pop Ax) ∷ on_place (stores width (Some bases.Bx)) x ∷ []
   row p (op.StoreThere width) = Plain (exchange Bx) ∷ Plain (pop Ax) ∷ Plain (closed (stores width (Some bases.Bx) segments.Ds) 0) ∷ []
   row p (op.StoreTop width x) = Plain (pop Cx) ∷ on_place (stores_right width) x ∷ []
+  row p (op.StoreConstantAt width x k) = Plain (exchange Bx) ∷ Plain (accumulator_gets k) ∷ on_place (stores width (Some bases.Bx)) x ∷ []
   row p (op.Send width) = plain (exchange Dx ∷ pop Ax ∷ i.Out width ports.Dx ∷ [])
   row p (op.SendTo width port) = plain (sent width port)
   row p (op.Receive width) = plain (exchange Dx ∷ then_narrow width (i.In width ports.Dx))

@@ -3,7 +3,7 @@
 ghost use Rattle.std.specs.Prelude.{◌≡◌, ◌<◌, ◌≤◌, ◌+◌, ◌-◌, ◌%◌, ◌++◌, ◌∷◌, [], ℕ, OnOk, IfOk, IsOkUnless, length, map, slice_index, slice_index_or};
 ghost use Rattle.i86_code.specs.Forms.{word_bytes, Spells};
 ghost use Rattle.i86_code.specs.Writing.{bytes_of};
-ghost use Rattle.i86_code.specs.Open.{front_of, IsOpen};
+ghost use Rattle.i86_code.specs.Open.{back_of};
 ghost use Rattle.select.specs.Sizes.{start, AreSettled, AreLeast};
 ghost use Rattle.select.specs.Parts.{target_of, extent_of, AreSpelt, IsPart, fixup};
 ghost use Rattle.select.specs.Inner.Assembly.{AreSteps, nothing, drafted_bytes, jump_bytes, branch_bytes, step_bytes, step_fixups, IsCoded};
@@ -11,8 +11,8 @@ ghost use Rattle.select.specs.Inner.Assembly.{AreSteps, nothing, drafted_bytes, 
 use crate::drafts::{Draft, coded, drafts_of};
 use crate::part::{Entry, Fixup, Kind, Part, Step};
 use crate::sizes::{Extent, settled};
-use i86_code::encode_open;
-use i86_table::{Condition, Instr};
+use i86_code::{bytes_behind, encode_open};
+use i86_table::{Condition, Instr, Open};
 use std::alloc::Global;
 use word86::Fault;
 
@@ -61,22 +61,23 @@ fn write(code: &mut Vec<u8>, instruction: Instr) -> Result<(), Fault>
     Ok(code.extend_from_slice(coded(&instruction).as_slice())?)
 }
 
-// An instruction with a number at its end, to which something is added.
+// An instruction with a word to which something is added, perhaps with a constant behind that.
 fn write_open(
     code: &mut Vec<u8>,
     fixups: &mut Vec<Fixup>,
+    instruction: Open,
     bytes: &[u8],
     kind: Kind,
     name: usize,
 ) -> Result<(), Fault>
-    requires { 2 ≤ length bytes.now }
+    requires { 2 + length (back_of instruction) ≤ length bytes.now }
     ensures bytes { OnOk result (code.new.items ≡ code.old.items ++ bytes.now) }
-    ensures fixups { OnOk result (fixups.new.items ≡ fixups.old.items ++ (fixup (length code.old.items + (length bytes.now - 2)) kind name ∷ [])) }
+    ensures fixups { OnOk result (fixups.new.items ≡ fixups.old.items ++ (fixup (length code.old.items + (length bytes.now - 2 - length (back_of instruction))) kind name ∷ [])) }
     ensures memory { IsOkUnless result Fault.Memory }
 {
     code.extend_from_slice(bytes)?;
     fixups.push(Fixup {
-        place: code.len() - 2,
+        place: code.len() - 2 - bytes_behind(instruction),
         kind,
         name,
     })?;
@@ -148,10 +149,15 @@ fn write_step(
     let far = to.wrapping_sub(there);
     match step {
         Step::Plain(_) => Ok(code.extend_from_slice(draft)?),
-        Step::Refer { kind, name, .. } => write_open(code, fixups, draft, kind, name),
+        Step::Refer {
+            instruction,
+            kind,
+            name,
+            ..
+        } => write_open(code, fixups, instruction, draft, kind, name),
         Step::AtStep { instruction, .. } => {
             let bytes = encode_open(instruction, to);
-            write_open(code, fixups, bytes.as_slice(), Kind::Case, own)
+            write_open(code, fixups, instruction, bytes.as_slice(), Kind::Case, own)
         }
         Step::Word { .. } => write_word(code, fixups, to, own),
         Step::Goto { .. } => write_jump(code, size, far),

@@ -265,6 +265,7 @@ fn unless_count(test: Test) -> usize
         Test::Odd | Test::Constant(_, _) | Test::Plain(_, Width::Word, _) => 2,
         Test::Plain(_, Width::Byte, _) => 4,
         Test::Low(_, Right::Constant(_)) | Test::Low(_, Right::Plain(_)) => 2,
+        Test::Named(_, _, _, _) | Test::OddNamed(_) => 2,
         Test::Top(_) | Test::Low(_, Right::Top) => 3,
     }
 }
@@ -346,7 +347,10 @@ pub(crate) fn steps_of(saves: Registers, instruction: Instruction) -> usize
         | Instruction::Leave
         | Instruction::Disable => 1,
         Instruction::StoreTop(_, _) | Instruction::Enable | Instruction::Halt => 2,
-        Instruction::StoreAt(_, _) | Instruction::StoreThere(_) | Instruction::Send(_) => 3,
+        Instruction::StoreAt(_, _)
+        | Instruction::StoreThere(_)
+        | Instruction::StoreConstantAt(_, _, _)
+        | Instruction::Send(_) => 3,
         Instruction::Switch(_) => 5,
         Instruction::Low(low, high) => low_count(low, high),
         Instruction::Load(width, _) => 1 + narrow_count(width),

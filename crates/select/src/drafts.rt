@@ -12,7 +12,7 @@ use i86_table::Instr;
 use std::alloc::Global;
 use word86::Fault;
 
-/// The bytes of a step: none of a jump or of a word of a table, and where they end in a step's place, 0 stands there.
+/// The bytes of a step: none of a jump or of a word of a table, and where they have a step's place, 0 stands there.
 pub(crate) type Draft = ArrayVec<u8, 8>;
 
 /// The bytes of an instruction.

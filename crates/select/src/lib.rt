@@ -6,6 +6,7 @@ mod counts;
 mod drafts;
 mod laws;
 mod low_bytes;
+mod named;
 mod operators;
 mod part;
 mod put;

@@ -53,14 +53,14 @@ pub struct Part {
 pub enum Step {
     /// An instruction.
     Plain(Instr),
-    /// An instruction with a number at its end, to which something is added.
+    /// An instruction with a number in its word, to which something is added.
     Refer {
         instruction: Open,
         number: u16,
         kind: Kind,
         name: usize,
     },
-    /// An instruction with the place of a step of this part at its end.
+    /// An instruction with the place of a step of this part in its word.
     AtStep {
         instruction: Open,
         target: usize,

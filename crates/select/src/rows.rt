@@ -1,13 +1,19 @@
 //! The steps of each instruction of the intermediate code.
 
 ghost use Rattle.std.specs.Prelude.{◌≡◌, ◌+◌, ◌++◌, ◌∷◌, [], IsOkUnless, OnOk, slice_index};
+ghost use Rattle.word86.specs.declared.width.Width.TheVariants.{Byte};
+ghost use Rattle.i86_table.specs.declared.registers.Register16.TheVariants.{Ax, Cx};
+ghost use Rattle.i86_table.specs.declared.registers.Register8.TheVariants.{Ch};
+ghost use Rattle.i86_table.specs.declared.instruction.AluOperation.TheVariants.{Cmp};
 ghost use Rattle.icode.specs.Registers.{none};
-ghost use Rattle.icode.specs.declared.instruction.Instruction.TheVariants.{Switch};
+ghost use Rattle.icode.specs.declared.instruction.Instruction.TheVariants.{StoreConstantAt, Switch};
+ghost use Rattle.icode.specs.declared.instruction.Test.TheVariants.{Named};
 ghost use Rattle.select.specs.declared.part.Step.TheVariants.{Plain, Goto};
 ghost use Rattle.select.specs.Inner.Numbering.{step_at};
-ghost use Rattle.select.specs.Rows.{stores_right, plain, finished, narrow, operates, row, picked, dropped, sent, received, by_read, fails, unless, step_added, stays_in_range, again, with_register, given_back, registers_of, on_place, loads, loads_right, stores, without_sign};
+ghost use Rattle.select.specs.Rows.{stores_right, plain, finished, clear_byte, alu, narrow, operates, row, picked, dropped, sent, received, by_read, fails, unless, step_added, stays_in_range, again, with_register, given_back, registers_of, on_place, loads, loads_right, stores, without_sign};
 
 use crate::low_bytes::{low_compared, low_row};
+use crate::named::{compare_byte, compare_word, test_byte};
 use crate::operators::{
     binary, by_constant, changed, core, direct, narrow, narrow_right, narrow_sum, step_added,
     then_narrow,
@@ -195,6 +201,43 @@ fn without_sign(relation: Relation) -> Relation
     }
 }
 
+/// AX is compared with the byte at a place, which fills CX.
+fn compare_with_byte(steps: &mut Vec<Step>, place: &Place) -> Result<(), Fault>
+    ensures steps { OnOk result (steps.new.items ≡ steps.old.items ++ on_place (loads_right Byte) place.now ∷ Plain (clear_byte Ch) ∷ Plain (alu Cmp Ax Cx) ∷ []) }
+    ensures memory { IsOkUnless result Fault.Memory }
+{
+    put(steps, load_right(Width::Byte, place))?;
+    all(
+        steps,
+        &[clear_byte(Register8::Ch), alu(AluOperation::Cmp, AX, CX)],
+    )
+}
+
+/// A jump to a step unless what lies at a place stands in a relation to a constant.
+fn unless_named(
+    steps: &mut Vec<Step>,
+    relation: Relation,
+    width: Width,
+    place: &Place,
+    number: u16,
+    target: usize,
+) -> Result<(), Fault>
+    ensures steps { OnOk result (steps.new.items ≡ steps.old.items ++ unless (Named relation width place.now number) target) }
+    ensures memory { IsOkUnless result Fault.Memory }
+{
+    let condition = match width {
+        Width::Byte => {
+            put(steps, compare_byte(place, number))?;
+            fails(without_sign(relation))
+        }
+        Width::Word => {
+            put(steps, compare_word(place, number))?;
+            fails(relation)
+        }
+    };
+    put(steps, Step::GotoIf { condition, target })
+}
+
 /// A jump to a step unless a test holds.
 fn unless(steps: &mut Vec<Step>, test: &Test, target: usize) -> Result<(), Fault>
     ensures steps { OnOk result (steps.new.items ≡ steps.old.items ++ unless test.now target) }
@@ -211,11 +254,7 @@ fn unless(steps: &mut Vec<Step>, test: &Test, target: usize) -> Result<(), Fault
             fails(*relation)
         }
         Test::Plain(relation, Width::Byte, place) => {
-            put(steps, load_right(Width::Byte, place))?;
-            all(
-                steps,
-                &[clear_byte(Register8::Ch), alu(AluOperation::Cmp, AX, CX)],
-            )?;
+            compare_with_byte(steps, place)?;
             fails(*relation)
         }
         Test::Plain(relation, Width::Word, place) => {
@@ -229,6 +268,13 @@ fn unless(steps: &mut Vec<Step>, test: &Test, target: usize) -> Result<(), Fault
         Test::Low(relation, right) => {
             let condition = fails(without_sign(*relation));
             return low_compared(steps, right, Step::GotoIf { condition, target });
+        }
+        Test::Named(relation, width, place, number) => {
+            return unless_named(steps, *relation, *width, place, *number, target);
+        }
+        Test::OddNamed(place) => {
+            put(steps, test_byte(1, place))?;
+            Condition::Equal
         }
     };
     put(steps, Step::GotoIf { condition, target })
@@ -374,6 +420,20 @@ fn loaded(
     narrow(steps, width)
 }
 
+/// A constant is written as far after a place as AX says, which gets the constant.
+fn store_constant(
+    steps: &mut Vec<Step>,
+    width: Width,
+    place: &Place,
+    number: u16,
+) -> Result<(), Fault>
+    ensures steps { OnOk result (steps.new.items ≡ steps.old.items ++ row (λ k. 0) (λ q. 0) none 0 (StoreConstantAt width place.now number)) }
+    ensures memory { IsOkUnless result Fault.Memory }
+{
+    all(steps, &[exchange(BX), accumulator_gets(number)])?;
+    put(steps, store(width, Some(Base::Bx), place))
+}
+
 /// A jump to the step that a row begins with.
 fn jump(steps: &mut Vec<Step>, target: usize) -> Result<(), Fault>
     ensures steps { OnOk result (steps.new.items ≡ steps.old.items ++ Goto target ∷ []) }
@@ -440,6 +500,9 @@ pub(crate) fn row(
         Instruction::StoreTop(width, place) => {
             add(steps, pop(CX))?;
             put(steps, store_right(*width, place))
+        }
+        Instruction::StoreConstantAt(width, place, number) => {
+            store_constant(steps, *width, place, *number)
         }
         Instruction::Send(width) => {
             all(

@@ -6,16 +6,17 @@ use Rattle.i86_table.specs.Inverse.{inverse}
 use Rattle.i86_table.specs.Contexts.{further}
 use Rattle.i86_table.specs.Open.{closed}
 use Rattle.i86_code.specs.Forms.{word_bytes, Spells}
+use Rattle.i86_code.specs.Open.{back_of}
 use Rattle.select.specs.declared.part.Step.{Step}
 use Rattle.select.specs.declared.part.Step.TheVariants.{Plain, Refer, AtStep, Word, Goto, GotoIf}
 use Rattle.select.specs.Parts.{target_of}
-use Rattle.select.specs.Linked.{value_at}
+use Rattle.select.specs.Linked.{value_at, word_end}
 
 -- From here up to there these bytes spell a step whose target is at that place, places being counted from the part's beginning.
 module _ (offsets places : List ℕ) (base own : ℕ) where
   abbrev pub IsLinked : (here there to : ℕ) → Step → List ℕ → Type 0
   IsLinked here there to (Plain n) b = Spells b n
-  IsLinked here there to (Refer x n kind name) b = Spells b (closed x ((n + value_at offsets places kind name (base + there)) % 65536))
+  IsLinked here there to (Refer x n kind name) b = Spells b (closed x ((n + value_at offsets places kind name (word_end (back_of x) (base + there))) % 65536))
   IsLinked here there to (AtStep x t) b = Spells b (closed x ((to % 65536 + slice_index places own) % 65536))
   IsLinked here there to (Word t) b = b ≡ word_bytes ((to % 65536 + slice_index places own) % 65536)
   IsLinked here there to (Goto t) b =

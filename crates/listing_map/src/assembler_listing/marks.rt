@@ -151,6 +151,7 @@ pub(crate) fn sort_of(instruction: Instruction) -> Sort {
         | Instruction::StoreAt(_, _)
         | Instruction::StoreThere(_)
         | Instruction::StoreTop(_, _)
+        | Instruction::StoreConstantAt(_, _, _)
         | Instruction::Send(_)
         | Instruction::SendTo(_, _) => Sort::Store,
         Instruction::Invoke(_) => Sort::Call,

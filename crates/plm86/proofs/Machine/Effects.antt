@@ -721,6 +721,17 @@ module _ {W P : Type 0} (m : BusModel W) (c : Chips P) (chips : W → P) (Whole 
             refl,
           )))
 
+      -- a test of memory with a mask
+      test_byte_memory : (start : ℕ) (t : Memory) (n : TestMask Register8 ℕ) → Fits (i.TestByte (places.Memory t) n) start
+      unfolding effect tested_place
+      test_byte_memory start t x = let n = i.TestByte (places.Memory t) x in
+          reads_meet widths.Byte t (place_of find g t widths.Byte) refl (λ v. Own q (set_flags g (tested widths.Byte v (byte_mask g x) g.flags)) st false o) n (effect m n start before) refl (λ v e. (
+            settled q hq (set_flags g (tested widths.Byte v (byte_mask g x) g.flags)) _ on
+                (ap₂ (λ y z. x_of (all_registers q (set_flags g (tested widths.Byte y z g.flags)) sp)) e (byte_mask_is laws.below.registers q g sp x)) (tested_keeps laws.below widths.Byte v (byte_mask g x) on g.flags flags),
+            refl,
+            refl,
+          ))
+
       keep_word : (start : ℕ) (r : Register16) (t : Memory) → Fits (i.MoveWord (FromRegister (places.Memory t) r)) start
       unfolding effect moves.moved
       keep_word start r t = let n = i.MoveWord (FromRegister (places.Memory t) r) in
@@ -841,7 +852,7 @@ module _ {W P : Type 0} (m : BusModel W) (c : Chips P) (chips : W → P) (Whole 
       instr_runs start (i.TestWord (places.Register r) n) ni = test_word start r n
       instr_runs start (i.TestWord (places.Memory d) n) ni = tt
       instr_runs start (i.TestByte (places.Register r) n) ni = test_byte start r n
-      instr_runs start (i.TestByte (places.Memory d) n) ni = tt
+      instr_runs start (i.TestByte (places.Memory d) n) ni = test_byte_memory start d n
       instr_runs start (i.ExchangeWords p) ni = exchange_words start p
       instr_runs start (i.UnaryWord f (places.Register r)) ni = unary_word start f r
       instr_runs start (i.UnaryWord f (places.Memory d)) ni = tt

@@ -5,7 +5,7 @@ use Rattle.i86_table.specs.declared.instruction.Instr.TheVariants as i
 use Rattle.i86_table.specs.Inverse.{inverse}
 use Rattle.i86_code.specs.Forms.{word_bytes, Spells}
 use Rattle.i86_code.specs.Writing.{bytes_of}
-use Rattle.i86_code.specs.Open.{front_of, IsOpen}
+use Rattle.i86_code.specs.Open.{front_of, open_bytes, IsOpen}
 use Rattle.select.specs.declared.part.Kind.TheVariants.{Case}
 use Rattle.select.specs.declared.part.Fixup.{Fixup}
 use Rattle.select.specs.declared.part.Step.{Step}
@@ -41,8 +41,8 @@ branch_bytes c size far = if size == 2 then bytes_of (i.JumpIf c (far % 256)) el
 
 abbrev pub step_bytes : (size there to : ℕ) → Step → List ℕ
 step_bytes size there to (Plain n) = bytes_of n
-step_bytes size there to (Refer x n kind name) = front_of x ++ word_bytes n
-step_bytes size there to (AtStep x t) = front_of x ++ word_bytes to
+step_bytes size there to (Refer x n kind name) = open_bytes x n
+step_bytes size there to (AtStep x t) = open_bytes x to
 step_bytes size there to (Word t) = word_bytes to
 step_bytes size there to (Goto t) = jump_bytes size (distance there to)
 step_bytes size there to (GotoIf c t) = branch_bytes c size (distance there to)
@@ -66,8 +66,8 @@ IsCoded (GotoIf c t) = Unit {0}
 -- the bytes of a step that are known before any step has its place
 abbrev pub drafted_bytes : Step → List ℕ
 drafted_bytes (Plain n) = bytes_of n
-drafted_bytes (Refer x n kind name) = front_of x ++ word_bytes n
-drafted_bytes (AtStep x t) = front_of x ++ word_bytes 0
+drafted_bytes (Refer x n kind name) = open_bytes x n
+drafted_bytes (AtStep x t) = open_bytes x 0
 drafted_bytes (Word t) = []
 drafted_bytes (Goto t) = []
 drafted_bytes (GotoIf c t) = []

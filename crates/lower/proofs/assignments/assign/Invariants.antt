@@ -1,7 +1,7 @@
 use Rattle.std.proofs.Common.{◌≡◌, ◌++◌, drop}
 use Rattle.plm_type.specs.View.{procedures_of}
 use Rattle.lower.specs.Inner.Expressions.{others_code}
-use Rattle.lower.proofs.expressions.assign.Given as goal
+use Rattle.lower.proofs.assignments.assign.Given as goal
 
 abbrev pub invariant-loop-other : goal.invariant-loop-other
 invariant-loop-other l =

@@ -2,7 +2,7 @@ use Rattle.std.proofs.Common.{◌≡◌, ◌++◌, subst, sym, arith}
 use Rattle.std.proofs.lemmas.Grind.{common_steps}
 use Rattle.plm_type.specs.View.{target_of, procedures_of}
 use Rattle.lower.proofs.Trees.{targets_coded}
-use Rattle.lower.proofs.expressions.assign.Goals as goal
+use Rattle.lower.proofs.assignments.assign.Goals as goal
 
 pub returns-clause-code : goal.returns-clause-code
 returns-clause-code c =
