@@ -108,6 +108,13 @@ fn bytes_of_any_kind(rt: HostRuntime) -> Result<(), Fail> {
             End::Opcode(0xFFFF0),
             b"TICK 5\nOPCODE FFFF0\n",
         ),
+        // jmp 0b000h:0. Code in the monochrome page is fetched: FILL F4 puts HLT there.
+        (
+            b"\xEA\x00\x00\x00\xB0",
+            b"FILL F4\nSTOP 1000",
+            End::Stopped,
+            b"END 1000\n",
+        ),
     ];
     for (reset, schedule, end, text) in ROWS {
         check(&rt, rt.alloc(), &[], reset, schedule, *end, text)?;
@@ -115,9 +122,10 @@ fn bytes_of_any_kind(rt: HostRuntime) -> Result<(), Fail> {
     Ok(())
 }
 
-// The monochrome page and its ends, words with one byte in a page, and what lies between the pages: each code at the ROM's front.
+// Each code at the ROM's front: the monochrome page and its ends, words with one byte in a page, what lies between the pages, and the
+// ROMs of their own file.
 #[test]
-fn stores_and_reads_of_pages(rt: HostRuntime) -> Result<(), Fail> {
+fn code_at_the_front(rt: HostRuntime) -> Result<(), Fail> {
     const ROWS: &[(&[u8], &[u8], &[u8])] = &[
         // mov ax, 0b000h; mov ds, ax; mov word [0f9eh], 1234h; hlt.
         (
@@ -185,27 +193,60 @@ fn stores_and_reads_of_pages(rt: HostRuntime) -> Result<(), Fail> {
             b"AT 500 TICK 3\nSTOP 501",
             b"OUT 0020 13\nOUT 0021 08\nOUT 0021 03\nOUT 0043 14\nOUT 0040 02\nTICK 3\nACK 08\nMONOW 0004 0200\nMONOW 0002 F000\nMONOW 0000 E01E\nEND 501\n",
         ),
+        // OUT rises at pulses 5, 9 and 13; the first two are one request, and no end of interrupt comes.
+        (
+            &TIMER_WAKES_ONCE,
+            b"AT 20000 TICK 9\nAT 25000 TICK 4\nSTOP 30000",
+            b"OUT 0020 13\nOUT 0021 08\nOUT 0021 01\nOUT 0021 FE\nOUT 0043 14\nOUT 0040 04\nTICK 9\nACK 08\nOUT 0300 01\nTICK 4\nEND 30000\n",
+        ),
+        (
+            &ECHOES_KEYS,
+            b"AT 20000 KEY 1E\nAT 20000 KEY 30\nSTOP 40000",
+            b"OUT 0063 99\nOUT 0020 13\nOUT 0021 08\nOUT 0021 03\nOUT 0021 FD\nKEY 1E\nKEY 30\nACK 09\nIN 0060 1E\nOUT 0300 1E\nOUT 0061 80\nOUT 0061 00\nACK 09\nIN 0060 30\nOUT 0300 30\nOUT 0061 80\nOUT 0061 00\nEND 40000\n",
+        ),
+        // The third repetition waits for the handler, which sees CX, and then goes on from its first prefix.
+        (
+            &COPIES_TO_THE_SCREEN,
+            b"AT 26 TICK 3\nSTOP 60",
+            b"OUT 0020 13\nOUT 0021 08\nOUT 0021 03\nOUT 0021 FE\nOUT 0043 14\nOUT 0040 02\nSCR 0000 41\nSCR 0001 42\nTICK 3\nACK 08\nOUT 0080 02\nSCR 0002 43\nSCR 0003 44\nOUTW 0300 E050\nEND 60\n",
+        ),
+        // No acknowledgement comes right after either STI.
+        (
+            &ENABLES_TWICE,
+            b"AT 16 KEY 1E\nSTOP 40",
+            b"OUT 0063 99\nOUT 0020 13\nOUT 0021 08\nOUT 0021 03\nOUT 0021 FD\nKEY 1E\nIN 0060 1E\nOUT 0300 1E\nACK 09\nOUT 0300 1F\nEND 40\n",
+        ),
+        (
+            &WAKES_BY_A_KEY,
+            b"AT 30 KEY 1E\nSTOP 50",
+            b"OUT 0063 99\nOUT 0020 13\nOUT 0021 08\nOUT 0021 03\nOUT 0021 FD\nKEY 1E\nACK 09\nIN 0060 1E\nOUT 0080 07\nEND 50\n",
+        ),
+        // Turns in which the processor waits for an event are not made.
+        (
+            &WAKES_BY_A_KEY,
+            b"AT 4000000000 KEY 1E\nAT 4294967294 TICK 5\nSTOP 4294967295",
+            b"OUT 0063 99\nOUT 0020 13\nOUT 0021 08\nOUT 0021 03\nOUT 0021 FD\nKEY 1E\nACK 09\nIN 0060 1E\nOUT 0080 07\nTICK 5\nEND 4294967295\n",
+        ),
+        (
+            &STORES_AT_THE_EDGES,
+            b"STOP 99",
+            b"SCR 0F9F 34\nSCR 0000 56\nSCRW 0000 DEF0\nOUTW 0300 FF34\nOUTW 0300 56FF\nOUTW 0300 FFBC\nOUTW 0300 00B8\nEND 99\n",
+        ),
+        (
+            &LAST_PORT,
+            b"STOP 20",
+            b"INW FFFF FFFF\nOUTW FFFF 1234\nOUTW 001F 1300\nIN 0020 00\nEND 20\n",
+        ),
+        (
+            &RETURNS_DISABLED,
+            b"AT 100 KEY 1E\nAT 200 KEY 30\nSTOP 300",
+            b"OUT 0063 99\nOUT 0020 13\nOUT 0021 08\nOUT 0021 03\nOUT 0021 FD\nKEY 1E\nACK 09\nIN 0060 1E\nOUT 0061 80\nOUT 0061 00\nKEY 30\nEND 300\n",
+        ),
     ];
     for (code, schedule, text) in ROWS {
         writes(&rt, rt.alloc(), code, schedule, text)?;
     }
     Ok(())
-}
-
-// Code in the monochrome page is fetched: FILL F4 puts HLT there. The ROM's last bytes are jmp 0b000h:0.
-#[test]
-fn code_in_the_monochrome_page(rt: HostRuntime) -> Result<(), Fail> {
-    let reset = b"\xEA\x00\x00\x00\xB0";
-    let schedule = b"FILL F4\nSTOP 1000";
-    check(
-        &rt,
-        rt.alloc(),
-        &[],
-        reset,
-        schedule,
-        End::Stopped,
-        b"END 1000\n",
-    )
 }
 
 /// The fault of a board with a ROM of this length.
@@ -229,181 +270,6 @@ fn refuses_other_lengths(rt: HostRuntime) -> Result<(), Fail> {
         expect.same(end, Ok(End::Opcode(0xFFFF0)));
     }
     Ok(())
-}
-
-// Three turns a round, the first reading at turn 3: 6,666 of them before turn 20,000.
-#[test]
-fn polls_the_keyboard(rt: HostRuntime) -> Result<(), Fail> {
-    let mut text = Vec::new(rt.alloc());
-    text.extend_from_slice(b"OUT 0063 99\n")?;
-    for _ in 0..6666 {
-        text.extend_from_slice(b"IN 0060 00\n")?;
-    }
-    text.extend_from_slice(b"KEY 1E\nIN 0060 1E\nOUT 0300 01\nEND 30000\n")?;
-    writes(
-        &rt,
-        rt.alloc(),
-        &POLLS_THE_KEYBOARD,
-        b"AT 20000 KEY 1E\nSTOP 30000",
-        &text,
-    )
-}
-
-// OUT rises at pulses 5, 9 and 13; the first two are one request, and no end of interrupt comes.
-#[test]
-fn timer_wakes_once(rt: HostRuntime) -> Result<(), Fail> {
-    writes(
-        &rt,
-        rt.alloc(),
-        &TIMER_WAKES_ONCE,
-        b"AT 20000 TICK 9\nAT 25000 TICK 4\nSTOP 30000",
-        b"OUT 0020 13\nOUT 0021 08\nOUT 0021 01\nOUT 0021 FE\nOUT 0043 14\nOUT 0040 04\nTICK 9\nACK 08\nOUT 0300 01\nTICK 4\nEND 30000\n",
-    )
-}
-
-#[test]
-fn echoes_keys(rt: HostRuntime) -> Result<(), Fail> {
-    writes(
-        &rt,
-        rt.alloc(),
-        &ECHOES_KEYS,
-        b"AT 20000 KEY 1E\nAT 20000 KEY 30\nSTOP 40000",
-        b"OUT 0063 99\nOUT 0020 13\nOUT 0021 08\nOUT 0021 03\nOUT 0021 FD\nKEY 1E\nKEY 30\nACK 09\nIN 0060 1E\nOUT 0300 1E\nOUT 0061 80\nOUT 0061 00\nACK 09\nIN 0060 30\nOUT 0300 30\nOUT 0061 80\nOUT 0061 00\nEND 40000\n",
-    )
-}
-
-/// A byte's two hexadecimal digits.
-fn digits(byte: u8) -> [u8; 2] {
-    const DIGITS: &[u8; 16] = b"0123456789ABCDEF";
-    [
-        DIGITS[usize::from(byte / 16)],
-        DIGITS[usize::from(byte % 16)],
-    ]
-}
-
-/// For each code up to the last, its digits between these texts are put out.
-fn put_codes(text: &mut Vec<u8>, last: u8, parts: &[&[u8]]) -> Result<(), Fail> {
-    for code in 1..=last {
-        put_between(text, &digits(code), parts)?;
-    }
-    Ok(())
-}
-
-/// The parts are put out, and the digits after each but the last.
-fn put_between(text: &mut Vec<u8>, digits: &[u8], parts: &[&[u8]]) -> Result<(), Fail> {
-    let Some((last, before)) = parts.split_last() else {
-        return Ok(());
-    };
-    for part in before {
-        text.extend_from_slice(part)?;
-        text.extend_from_slice(digits)?;
-    }
-    text.extend_from_slice(last)?;
-    Ok(())
-}
-
-const KEYS_ARE_SET_UP: &[u8] = b"OUT 0063 99\nOUT 0020 13\nOUT 0021 08\nOUT 0021 03\nOUT 0021 FD\n";
-
-// One code in the register, sixteen in the queue, and the last is lost.
-#[test]
-fn seventeen_of_eighteen_keys(rt: HostRuntime) -> Result<(), Fail> {
-    let mut schedule = Vec::new(rt.alloc());
-    put_codes(&mut schedule, 18, &[b"AT 20000 KEY ", b"\n"])?;
-    schedule.extend_from_slice(b"STOP 40000")?;
-    let mut text = Vec::new(rt.alloc());
-    text.extend_from_slice(KEYS_ARE_SET_UP)?;
-    put_codes(&mut text, 18, &[b"KEY ", b"\n"])?;
-    put_codes(
-        &mut text,
-        17,
-        &[
-            b"ACK 09\nIN 0060 ",
-            b"\nOUT 0300 ",
-            b"\nOUT 0061 80\nOUT 0061 00\n",
-        ],
-    )?;
-    text.extend_from_slice(b"END 40000\n")?;
-    writes(&rt, rt.alloc(), &ECHOES_KEYS, &schedule, &text)
-}
-
-// The third repetition waits for the handler, which sees CX, and then goes on from its first prefix.
-#[test]
-fn acknowledges_between_repetitions(rt: HostRuntime) -> Result<(), Fail> {
-    writes(
-        &rt,
-        rt.alloc(),
-        &COPIES_TO_THE_SCREEN,
-        b"AT 26 TICK 3\nSTOP 60",
-        b"OUT 0020 13\nOUT 0021 08\nOUT 0021 03\nOUT 0021 FE\nOUT 0043 14\nOUT 0040 02\nSCR 0000 41\nSCR 0001 42\nTICK 3\nACK 08\nOUT 0080 02\nSCR 0002 43\nSCR 0003 44\nOUTW 0300 E050\nEND 60\n",
-    )
-}
-
-// No acknowledgement comes right after either STI.
-#[test]
-fn delays_after_each_sti(rt: HostRuntime) -> Result<(), Fail> {
-    writes(
-        &rt,
-        rt.alloc(),
-        &ENABLES_TWICE,
-        b"AT 16 KEY 1E\nSTOP 40",
-        b"OUT 0063 99\nOUT 0020 13\nOUT 0021 08\nOUT 0021 03\nOUT 0021 FD\nKEY 1E\nIN 0060 1E\nOUT 0300 1E\nACK 09\nOUT 0300 1F\nEND 40\n",
-    )
-}
-
-#[test]
-fn wakes_by_a_key(rt: HostRuntime) -> Result<(), Fail> {
-    writes(
-        &rt,
-        rt.alloc(),
-        &WAKES_BY_A_KEY,
-        b"AT 30 KEY 1E\nSTOP 50",
-        b"OUT 0063 99\nOUT 0020 13\nOUT 0021 08\nOUT 0021 03\nOUT 0021 FD\nKEY 1E\nACK 09\nIN 0060 1E\nOUT 0080 07\nEND 50\n",
-    )
-}
-
-// Turns in which the processor waits for an event are not made.
-#[test]
-fn wakes_by_a_late_key(rt: HostRuntime) -> Result<(), Fail> {
-    writes(
-        &rt,
-        rt.alloc(),
-        &WAKES_BY_A_KEY,
-        b"AT 4000000000 KEY 1E\nAT 4294967294 TICK 5\nSTOP 4294967295",
-        b"OUT 0063 99\nOUT 0020 13\nOUT 0021 08\nOUT 0021 03\nOUT 0021 FD\nKEY 1E\nACK 09\nIN 0060 1E\nOUT 0080 07\nTICK 5\nEND 4294967295\n",
-    )
-}
-
-#[test]
-fn stores_at_the_edges(rt: HostRuntime) -> Result<(), Fail> {
-    writes(
-        &rt,
-        rt.alloc(),
-        &STORES_AT_THE_EDGES,
-        b"STOP 99",
-        b"SCR 0F9F 34\nSCR 0000 56\nSCRW 0000 DEF0\nOUTW 0300 FF34\nOUTW 0300 56FF\nOUTW 0300 FFBC\nOUTW 0300 00B8\nEND 99\n",
-    )
-}
-
-#[test]
-fn last_port(rt: HostRuntime) -> Result<(), Fail> {
-    writes(
-        &rt,
-        rt.alloc(),
-        &LAST_PORT,
-        b"STOP 20",
-        b"INW FFFF FFFF\nOUTW FFFF 1234\nOUTW 001F 1300\nIN 0020 00\nEND 20\n",
-    )
-}
-
-#[test]
-fn returns_disabled(rt: HostRuntime) -> Result<(), Fail> {
-    writes(
-        &rt,
-        rt.alloc(),
-        &RETURNS_DISABLED,
-        b"AT 100 KEY 1E\nAT 200 KEY 30\nSTOP 300",
-        b"OUT 0063 99\nOUT 0020 13\nOUT 0021 08\nOUT 0021 03\nOUT 0021 FD\nKEY 1E\nACK 09\nIN 0060 1E\nOUT 0061 80\nOUT 0061 00\nKEY 30\nEND 300\n",
-    )
 }
 
 // A turn's events are not among its labels.
@@ -481,37 +347,6 @@ fn keys_at_every_turn(rt: HostRuntime) -> Result<(), Fail> {
     let (taken, _) = counted(rt.alloc(), 0, b"ACK", b"ACK 09")?;
     expect.same(taken, 0);
     Ok(())
-}
-
-/// The end of a run whose lines have their turns in front, and its text.
-fn numbered(
-    rt: &impl Abort,
-    alloc: Global,
-    reset: &[u8],
-    schedule: &[u8],
-    end: End,
-    text: &[u8],
-) -> Result<(), Fail> {
-    let mut expect = Expect::new(rt);
-    let schedule = read_schedule(alloc, schedule)?;
-    let memory = PowerOn::filled(alloc, schedule.fill())?;
-    let mut board = Board::new(alloc, &rom(alloc, b"", reset)?, memory)?;
-    let mut sink = CutSink::new(alloc, 300, 7)?;
-    expect.same(board.run_numbered(&schedule, &mut sink), Ok(end));
-    expect.same(sink.bytes(), text);
-    Ok(())
-}
-
-// JMP to itself takes a turn each; no instruction begins with 0F.
-#[test]
-fn numbers_each_line(rt: HostRuntime) -> Result<(), Fail> {
-    let alloc = rt.alloc();
-    let keys = b"AT 3 KEY 11\nAT 10 KEY 91\nSTOP 12";
-    let shown = b"3 KEY 11\n10 KEY 91\n12 END 12\n";
-    numbered(&rt, alloc, b"\xEB\xFE", keys, End::Stopped, shown)?;
-    let ticks = b"AT 0 TICK 5\nSTOP 9";
-    let ended = b"0 TICK 5\n0 OPCODE FFFF0\n";
-    numbered(&rt, alloc, b"\x0F\x0F", ticks, End::Opcode(0xFFFF0), ended)
 }
 
 // Two parts write the lines of all their turns, and then comes the last line.

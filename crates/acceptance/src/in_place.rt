@@ -2,7 +2,7 @@
 //! from the manual's table.
 
 use crate::expect::Expect;
-use crate::low_bytes::{bytes_are, is_lowered};
+use crate::low_bytes::{has_bytes, is_lowered};
 use crate::selection::section_of;
 use crate::sources::{code_of, then};
 use icode::{Code, High, Instruction, LowByte, Relation, Right, Test};
@@ -238,10 +238,7 @@ fn bytes_of_what_is_done_in_place(rt: HostRuntime) -> Result<(), Fail> {
     let alloc = rt.alloc();
     for (statement, wanted) in BYTES {
         let text = text_of(alloc, statement)?;
-        let same = then(code_of(alloc, &[&text]), |code| {
-            bytes_are(alloc, code, wanted)
-        })?;
-        expect.holds(same);
+        expect.holds(has_bytes(alloc, &text, wanted)?);
     }
     Ok(())
 }

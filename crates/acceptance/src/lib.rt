@@ -9,11 +9,11 @@ mod board_runs;
 #[cfg(test)]
 mod building;
 #[cfg(test)]
-mod calls;
-#[cfg(test)]
 mod codec;
 #[cfg(test)]
 mod declared_names;
+#[cfg(test)]
+mod digits;
 #[cfg(test)]
 mod expect;
 #[cfg(test)]
@@ -21,11 +21,7 @@ mod flags;
 #[cfg(test)]
 mod in_place;
 #[cfg(test)]
-mod integers;
-#[cfg(test)]
 mod interrupt_controller;
-#[cfg(test)]
-mod interrupt_procedures;
 #[cfg(test)]
 mod linking;
 #[cfg(test)]
@@ -39,15 +35,11 @@ mod lowering;
 #[cfg(test)]
 mod meaning;
 #[cfg(test)]
-mod names;
-#[cfg(test)]
 mod nodes;
 #[cfg(test)]
 mod ports;
 #[cfg(test)]
 mod processor;
-#[cfg(test)]
-mod rotation;
 #[cfg(test)]
 mod schedules;
 #[cfg(test)]
@@ -66,8 +58,6 @@ mod trace_lines;
 mod type_rules;
 #[cfg(test)]
 mod typed_trees;
-#[cfg(test)]
-mod types;
 #[cfg(test)]
 mod warnings;
 #[cfg(test)]

@@ -2,7 +2,7 @@
 
 use crate::expect::Expect;
 use crate::selection::section_of;
-use crate::sources::{code_of, seen, then};
+use crate::sources::{code_of, then};
 use icode::{Code, Direct, High, Instruction, LowByte, Right, Routine};
 use std::alloc::Global;
 use std::test::Fail;
@@ -21,10 +21,6 @@ const STORES: Instruction = Instruction::Store(Width::Byte, A);
 const READS_B: Instruction = Instruction::Low(LowByte::Load(B), High::Kept);
 
 const READS_C: Instruction = Instruction::Low(LowByte::Load(C), High::Kept);
-
-fn operates(operation: Direct, right: Right) -> Instruction {
-    Instruction::Low(LowByte::Operate(operation, right), High::Kept)
-}
 
 /// Main's code but for its last two instructions, which halt again and again.
 fn body_is(code: &Code, wanted: &[Instruction]) -> bool {
@@ -48,7 +44,7 @@ pub(crate) fn is_lowered(
 fn targets_of_bytes(rt: HostRuntime) -> Result<(), Fail> {
     let mut expect = Expect::new(&rt);
     let alloc = rt.alloc();
-    let rows: [(&[u8], &[Instruction]); 9] = [
+    const ROWS: &[(&[u8], &[Instruction])] = &[
         (
             b"M: DO; DECLARE (A, B, C) BYTE, W WORD; A = 5; END M;",
             &[Instruction::Low(LowByte::Constant(5), High::Kept), STORES],
@@ -71,11 +67,25 @@ fn targets_of_bytes(rt: HostRuntime) -> Result<(), Fail> {
         ),
         (
             b"M: DO; DECLARE (A, B, C) BYTE, W WORD; A = B + 2; END M;",
-            &[READS_B, operates(Direct::Add, Right::Constant(2)), STORES],
+            &[
+                READS_B,
+                Instruction::Low(
+                    LowByte::Operate(Direct::Add, Right::Constant(2)),
+                    High::Kept,
+                ),
+                STORES,
+            ],
         ),
         (
             b"M: DO; DECLARE (A, B, C) BYTE, W WORD; A = B - C; END M;",
-            &[READS_B, operates(Direct::Subtract, Right::Plain(C)), STORES],
+            &[
+                READS_B,
+                Instruction::Low(
+                    LowByte::Operate(Direct::Subtract, Right::Plain(C)),
+                    High::Kept,
+                ),
+                STORES,
+            ],
         ),
         (
             b"M: DO; DECLARE (A, B, C) BYTE, W WORD; A = B AND W; END M;",
@@ -91,7 +101,10 @@ fn targets_of_bytes(rt: HostRuntime) -> Result<(), Fail> {
                 READS_B,
                 Instruction::Push,
                 READS_C,
-                operates(Direct::ExclusiveOr, Right::Constant(3)),
+                Instruction::Low(
+                    LowByte::Operate(Direct::ExclusiveOr, Right::Constant(3)),
+                    High::Kept,
+                ),
                 Instruction::Binary(BinaryOperation::Or, Width::Word),
                 STORES,
             ],
@@ -105,14 +118,14 @@ fn targets_of_bytes(rt: HostRuntime) -> Result<(), Fail> {
             ],
         ),
     ];
-    for (text, wanted) in rows {
+    for (text, wanted) in ROWS {
         expect.holds(is_lowered(alloc, text, wanted)?);
     }
     Ok(())
 }
 
 /// The bytes of main's part but for its last four, which halt again and again. Offsets of objects are 0 until parts are placed.
-pub(crate) fn bytes_are(alloc: Global, code: &Code, wanted: &[u8]) -> Result<bool, Fault> {
+fn bytes_are(alloc: Global, code: &Code, wanted: &[u8]) -> Result<bool, Fault> {
     let parts = section_of(alloc, code, 0)?;
     let end = [0xFB, 0xF4, 0xEB, 0xFC];
     Ok(match parts.first() {
@@ -124,11 +137,18 @@ pub(crate) fn bytes_are(alloc: Global, code: &Code, wanted: &[u8]) -> Result<boo
     })
 }
 
+/// Whether a text has these bytes.
+pub(crate) fn has_bytes(alloc: Global, text: &[u8], wanted: &[u8]) -> Result<bool, Fault> {
+    then(code_of(alloc, &[text]), |code| {
+        bytes_are(alloc, code, wanted)
+    })
+}
+
 #[test]
 fn bytes_of_low_bytes(rt: HostRuntime) -> Result<(), Fail> {
     let mut expect = Expect::new(&rt);
     let alloc = rt.alloc();
-    let rows: [(&[u8], &[u8]); 7] = [
+    const ROWS: &[(&[u8], &[u8])] = &[
         // MOV AL,5; MOV [A],AL
         (
             b"M: DO; DECLARE (A, B, C) BYTE, W WORD; A = 5; END M;",
@@ -167,11 +187,8 @@ fn bytes_of_low_bytes(rt: HostRuntime) -> Result<(), Fail> {
             ],
         ),
     ];
-    for (text, wanted) in rows {
-        let same = then(code_of(alloc, &[text]), |code| {
-            bytes_are(alloc, code, wanted)
-        })?;
-        expect.holds(same);
+    for (text, wanted) in ROWS {
+        expect.holds(has_bytes(alloc, text, wanted)?);
     }
     Ok(())
 }

@@ -1,212 +1,126 @@
 //! Rows from the data sheets, worked by hand.
 
-use crate::expect::Expect;
+use crate::digits::{byte, number};
 use ppi_kbd::{Call, Ports, Reply, replay};
+use std::alloc::Global;
+use std::process::Abort;
+use std::test::Fail;
 use word86::Event;
 
-/// ChipState after these writes.
-fn set(writes: &[(u16, u8)]) -> Ports {
-    let mut ports = Ports::reset();
-    for (port, value) in writes {
-        ports.write(*port, *value);
+/// A call by its word: `w20:13` a byte and `W20:0813` a word that is written to port 20H, `r60` and `R60` what is read there, `k1E` a key
+/// and `t2` two pulses that come, `l` a look at INT, and `a` an acknowledgement, which answers nothing while INT is down.
+fn call_of(word: &[u8]) -> Option<Call> {
+    match word {
+        [b'a'] => Some(Call::Acknowledge),
+        [b'l'] => Some(Call::Line),
+        [b'k', high, low] => Some(Call::Comes(Event::Key(byte(*high, *low)))),
+        [b't', pulses @ ..] => Some(Call::Comes(Event::Tick(number(10, pulses)))),
+        [b'r', port @ ..] => Some(Call::Read(number(16, port))),
+        [b'R', port @ ..] => Some(Call::ReadWord(number(16, port))),
+        [b'w', port @ .., b':', high, low] => {
+            Some(Call::Write(number(16, port), byte(*high, *low)))
+        }
+        [b'W', port @ .., b':', a, b, c, d] => Some(Call::WriteWord(
+            number(16, port),
+            number(16, &[*a, *b, *c, *d]),
+        )),
+        _ => None,
     }
-    ports
 }
 
-/// The interrupt controller in 8086 mode with vectors from 8 on and an automatic end, and port B an output.
-const STARTED: [(u16, u8); 4] = [(0x63, 0x99), (0x20, 0x13), (0x21, 8), (0x21, 3)];
-
-/// The vector that is taken, if INT is up.
-fn taken(ports: &mut Ports) -> Option<u8> {
-    if ports.int_line() {
-        Some(ports.acknowledge())
-    } else {
-        None
+fn calls_of(alloc: Global, words: &str) -> Result<Vec<Call>, Fail> {
+    let mut calls = Vec::new(alloc);
+    for word in words.as_bytes().split(|character| *character == b' ') {
+        if let Some(call) = call_of(word) {
+            calls.push(call)?;
+        }
     }
+    Ok(calls)
 }
 
-// A mode word clears the latches, and one with another mode than 0 is ignored as a whole.
-#[test]
-fn mode_words(rt: HostRuntime) {
-    let mut expect = Expect::new(&rt);
-    let mut ports = set(&[(0x63, 0x80), (0x60, 0x12), (0x61, 0x34), (0x62, 0x56)]);
-    expect.same(ports.read(0x60), 0x12);
-    expect.same(ports.read(0x61), 0x34);
-    expect.same(ports.read(0x62), 0x56);
-    for word in [0xA0, 0xC0, 0x84] {
-        ports.write(0x63, word);
-        assert_eq!(rt; ports.read(0x61), 0x34);
+/// What the calls answer of chips at reset, in words: a byte or a vector by two digits, a word by four, INT by `up` or `no`.
+fn answers_of(alloc: Global, calls: &[Call]) -> Result<String, Fail> {
+    let mut replies = vec![in alloc; Reply::Nothing; calls.len()]?;
+    replay(calls, &mut replies);
+    let mut answers = String::new(alloc);
+    for reply in replies.iter() {
+        match reply {
+            Reply::Nothing => {}
+            Reply::Byte(byte) => answers.push_str(&format!(in alloc; "{byte:02X} ")?)?,
+            Reply::Word(word) => answers.push_str(&format!(in alloc; "{word:04X} ")?)?,
+            Reply::Signal(true) => answers.push_str("up ")?,
+            Reply::Signal(false) => answers.push_str("no ")?,
+        }
     }
-    ports.write(0x63, 0x80);
-    expect.same(ports.read(0x60), 0);
-    expect.same(ports.read(0x61), 0);
-    expect.same(ports.read(0x62), 0);
-    expect.same(ports.read(0x63), 0xFF);
+    Ok(answers)
 }
 
-// Bits of port C set and reset one by one; its halves are inputs or outputs on their own.
-#[test]
-fn bits_of_port_c(rt: HostRuntime) {
-    let mut expect = Expect::new(&rt);
-    let mut ports = set(&[(0x63, 0x80), (0x63, 0x0F), (0x63, 0x01), (0x63, 0x07)]);
-    expect.same(ports.read(0x62), 0x89);
-    ports.write(0x63, 0x0E);
-    expect.same(ports.read(0x62), 0x09);
-    ports.write(0x63, 0x88);
-    ports.write(0x62, 0xFF);
-    expect.same(ports.read(0x62), 0x2F);
-    ports.write(0x63, 0x81);
-    ports.write(0x62, 0xFF);
-    expect.same(ports.read(0x62), 0xF0);
-}
+/// Calls, their answers, and why. Most begin with the interrupt controller in 8086 mode, with vectors from 8 on and an automatic end, and
+/// with port B an output.
+const ROWS: &[(&str, &str, &str)] = &[
+    (
+        "w63:80 w60:12 w61:34 w62:56 r60 r61 r62 w63:A0 r61 w63:C0 r61 w63:84 r61 w63:80 r60 r61 r62 r63",
+        "12 34 56 34 34 34 00 00 00 FF ",
+        "A mode word clears the latches, and one with another mode than 0 is ignored as a whole.",
+    ),
+    (
+        "w63:80 w63:0F w63:01 w63:07 r62 w63:0E r62 w63:88 w62:FF r62 w63:81 w62:FF r62",
+        "89 09 2F F0 ",
+        "Bits of port C set and reset one by one; its halves are inputs or outputs on their own.",
+    ),
+    (
+        "r60 r61 r62 r300 r43 l",
+        "00 FF 20 FF FF no ",
+        "At reset every port is an input: A the empty register, B 0FFH, C the timer's OUT 2; an unmapped port reads 0FFH.",
+    ),
+    (
+        "w63:99 w43:94 w42:02 t2 r62 w61:01 t2 r62 w61:00 r62",
+        "20 00 20 ",
+        "Port B bit 0 is the gate of channel 2, whose OUT is bit 5 of port C.",
+    ),
+    (
+        "w63:99 w20:13 w21:08 w21:03 k1E k30 a l r60 w61:80 r60 w61:00 a r60",
+        "09 no 1E 00 09 30 ",
+        "Two keys: the second moves into the register when bit 7 of port B falls again.",
+    ),
+    (
+        "w63:99 w20:13 w21:08 w21:03 k01 k02 k03 k04 k05 k06 k07 k08 k09 k0A k0B k0C k0D k0E k0F k10 k11 k12 a r60 w61:80 w61:00 a r60 w61:80 w61:00 a r60 w61:80 w61:00 a r60 w61:80 w61:00 a r60 w61:80 w61:00 a r60 w61:80 w61:00 a r60 w61:80 w61:00 a r60 w61:80 w61:00 a r60 w61:80 w61:00 a r60 w61:80 w61:00 a r60 w61:80 w61:00 a r60 w61:80 w61:00 a r60 w61:80 w61:00 a r60 w61:80 w61:00 a r60 w61:80 w61:00 a r60 w61:80 w61:00 a r60 w61:80 w61:00 l r60",
+        "09 01 09 02 09 03 09 04 09 05 09 06 09 07 09 08 09 09 09 0A 09 0B 09 0C 09 0D 09 0E 09 0F 09 10 09 11 no 00 ",
+        "Of eighteen keys seventeen come: one in the register, sixteen in the queue, and the last is lost.",
+    ),
+    (
+        "w63:99 w20:13 w21:08 w21:03 w61:80 k1E l w61:00 a",
+        "no 09 ",
+        "While the clear line is up keys wait in the queue.",
+    ),
+    (
+        "w43:94 w42:02 w61:81 k1E r60 t2 r62 r42 w63:99 r61 r60 t2 r42 w61:81 r60 t2 r42",
+        "1E 20 00 00 1E 00 00 01 ",
+        "While port B is an input its lines are 0, whatever its latch holds: 81H there neither clears the keyboard nor raises the gate of channel 2. The mode word 99H makes B an output and clears the latch, so nothing is driven then either.",
+    ),
+    (
+        "w63:99 w20:13 w21:08 w21:03 w43:14 w40:04 t4 l t1 a w43:10 l w43:14 a",
+        "no 08 no 08 ",
+        "Channel 0's OUT raises level 0 by a pulse and by a control word.",
+    ),
+    (
+        "w63:80 W60:3412 R60 RFFFF W43:0034 W3F:0500 w40:00 t1 r40",
+        "3412 FFFF 05 ",
+        "A word is the low byte, then the high byte at the next port, modulo 65,536.",
+    ),
+    (
+        "w63:99 a W20:0813 w21:01 k1E l a r60 R60",
+        "up 09 1E 001E ",
+        "An acknowledgement while INT is down does nothing.",
+    ),
+];
 
-// At reset every port is an input: A the empty register, B 0FFH, C the timer's OUT 2; an unmapped port reads 0FFH.
 #[test]
-fn reset_reads(rt: HostRuntime) {
-    let mut expect = Expect::new(&rt);
-    let mut ports = Ports::reset();
-    expect.same(ports.read(0x60), 0);
-    expect.same(ports.read(0x61), 0xFF);
-    expect.same(ports.read(0x62), 0x20);
-    expect.same(ports.read(0x300), 0xFF);
-    expect.same(ports.read(0x43), 0xFF);
-    expect.holds(!ports.int_line());
-}
-
-// Port B bit 0 is the gate of channel 2, whose OUT is bit 5 of port C.
-#[test]
-fn gate_and_out_of_channel_two(rt: HostRuntime) {
-    let mut expect = Expect::new(&rt);
-    let mut ports = set(&[(0x63, 0x99), (0x43, 0x94), (0x42, 2)]);
-    ports.event(Event::Tick(2));
-    expect.same(ports.read(0x62), 0x20);
-    ports.write(0x61, 1);
-    ports.event(Event::Tick(2));
-    expect.same(ports.read(0x62), 0);
-    ports.write(0x61, 0);
-    expect.same(ports.read(0x62), 0x20);
-}
-
-// Two keys: the second moves into the register when bit 7 of port B falls again.
-#[test]
-fn two_keys(rt: HostRuntime) {
-    let mut expect = Expect::new(&rt);
-    let mut ports = set(&STARTED);
-    ports.event(Event::Key(0x1E));
-    ports.event(Event::Key(0x30));
-    expect.same(taken(&mut ports), Some(9));
-    expect.same(taken(&mut ports), None);
-    expect.same(ports.read(0x60), 0x1E);
-    ports.write(0x61, 0x80);
-    expect.same(ports.read(0x60), 0);
-    ports.write(0x61, 0);
-    expect.same(taken(&mut ports), Some(9));
-    expect.same(ports.read(0x60), 0x30);
-}
-
-// Of eighteen keys seventeen come: one in the register, sixteen in the queue, and the last is lost.
-#[test]
-fn eighteen_keys(rt: HostRuntime) {
-    let mut expect = Expect::new(&rt);
-    let mut ports = set(&STARTED);
-    for code in 1..=18u8 {
-        ports.event(Event::Key(code));
+fn calls_are_answered(rt: HostRuntime) -> Result<(), Fail> {
+    for (words, answers, why) in ROWS {
+        let calls = calls_of(rt.alloc(), words)?;
+        let found = answers_of(rt.alloc(), calls.as_slice())?;
+        assert_eq!(rt; found.as_str(), *answers, "{words}: {why}");
     }
-    for code in 1..=17u8 {
-        assert_eq!(rt; taken(&mut ports), Some(9));
-        assert_eq!(rt; ports.read(0x60), code);
-        ports.write(0x61, 0x80);
-        ports.write(0x61, 0);
-    }
-    expect.same(taken(&mut ports), None);
-    expect.same(ports.read(0x60), 0);
-}
-
-// While the clear line is up keys wait in the queue.
-#[test]
-fn keys_wait_while_cleared(rt: HostRuntime) {
-    let mut expect = Expect::new(&rt);
-    let mut ports = set(&STARTED);
-    ports.write(0x61, 0x80);
-    ports.event(Event::Key(0x1E));
-    expect.same(taken(&mut ports), None);
-    ports.write(0x61, 0);
-    expect.same(taken(&mut ports), Some(9));
-}
-
-// While port B is an input its lines are 0, whatever its latch holds: 81H there neither clears the keyboard nor raises the gate
-// of channel 2. The mode word 99H makes B an output and clears the latch, so nothing is driven then either.
-#[test]
-fn latch_of_an_input(rt: HostRuntime) {
-    let mut expect = Expect::new(&rt);
-    let mut ports = set(&[(0x43, 0x94), (0x42, 2), (0x61, 0x81)]);
-    ports.event(Event::Key(0x1E));
-    expect.same(ports.read(0x60), 0x1E);
-    ports.event(Event::Tick(2));
-    expect.same(ports.read(0x62), 0x20);
-    expect.same(ports.read(0x42), 0);
-    ports.write(0x63, 0x99);
-    expect.same(ports.read(0x61), 0);
-    expect.same(ports.read(0x60), 0x1E);
-    ports.event(Event::Tick(2));
-    expect.same(ports.read(0x42), 0);
-    ports.write(0x61, 0x81);
-    expect.same(ports.read(0x60), 0);
-    ports.event(Event::Tick(2));
-    expect.same(ports.read(0x42), 1);
-}
-
-// Channel 0's OUT raises level 0 by a pulse and by a control word.
-#[test]
-fn timer_requests(rt: HostRuntime) {
-    let mut expect = Expect::new(&rt);
-    let mut ports = set(&STARTED);
-    ports.write(0x43, 0x14);
-    ports.write(0x40, 4);
-    ports.event(Event::Tick(4));
-    expect.same(taken(&mut ports), None);
-    ports.event(Event::Tick(1));
-    expect.same(taken(&mut ports), Some(8));
-    ports.write(0x43, 0x10);
-    expect.same(taken(&mut ports), None);
-    ports.write(0x43, 0x14);
-    expect.same(taken(&mut ports), Some(8));
-}
-
-// A word is the low byte, then the high byte at the next port, modulo 65,536.
-#[test]
-fn words(rt: HostRuntime) {
-    let mut expect = Expect::new(&rt);
-    let mut ports = set(&[(0x63, 0x80)]);
-    ports.write_word(0x60, 0x3412);
-    expect.same(ports.read_word(0x60), 0x3412);
-    expect.same(ports.read_word(0xFFFF), 0xFFFF);
-    ports.write_word(0x43, 0x0034);
-    ports.write_word(0x3F, 0x0500);
-    ports.write(0x40, 0);
-    ports.event(Event::Tick(1));
-    expect.same(ports.read(0x40), 5);
-}
-
-#[test]
-fn list_of_calls(rt: HostRuntime) {
-    let mut expect = Expect::new(&rt);
-    let calls = [
-        Call::Write(0x63, 0x99),
-        Call::Acknowledge,
-        Call::WriteWord(0x20, 0x0813),
-        Call::Write(0x21, 1),
-        Call::Comes(Event::Key(0x1E)),
-        Call::Line,
-        Call::Acknowledge,
-        Call::Read(0x60),
-        Call::ReadWord(0x60),
-    ];
-    let mut replies = [Reply::Nothing; 9];
-    replay(&calls, &mut replies);
-    expect.same(replies[1], Reply::Nothing);
-    expect.same(replies[5], Reply::Signal(true));
-    expect.same(replies[6], Reply::Byte(9));
-    expect.same(replies[7], Reply::Byte(0x1E));
-    expect.same(replies[8], Reply::Word(0x001E));
+    Ok(())
 }

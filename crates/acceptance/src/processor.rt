@@ -164,31 +164,23 @@ fn hold(registers: &mut Regs, word: u16) {
     }
 }
 
-/// 8 KiB ROMs, 0 but for the bytes from 0FFFF0H: what memory holds, these bytes, the turns, and where the processor stops.
+/// What memory holds but for 8 KiB of zeros with these bytes from 0FFFF0H, the turns, and where the processor stops. It stays so.
 #[test]
-fn six_roms(rt: HostRuntime) -> Result<(), Fail> {
-    const ROWS: &[(u8, &[u8], u32, Option<u32>)] = &[
-        (0x00, &[], 100, None),
-        (0xFF, &[], 100, Some(0x00000)),
-        (0x00, &[0xEB, 0xFE], 100, None),
-        (0x00, &[0x26, 0x26], 100, Some(0xFFFF0)),
-        (0x00, &[0xF7, 0xF1], 100, None),
-        (0x00, &[0xF7, 0xF1], 40_000, Some(0x0FFFC)),
+fn stays_stopped(rt: HostRuntime) -> Result<(), Fail> {
+    const ROWS: &[(u8, &[u8], u32, u32)] = &[
+        (0xFF, &[], 100, 0x00000),
+        (0x00, &[0x26, 0x26], 100, 0xFFFF0),
+        (0x00, &[0xF7, 0xF1], 40_000, 0x0FFFC),
     ];
     for (fill, code, turns, end) in ROWS {
         let mut bus = TestBus::filled(rt.alloc(), *fill)?;
         bus.write(0xFFFF0, code);
         let mut cpu = Cpu::reset();
-        assert_eq!(rt;
-            run(&mut cpu, &mut bus, *turns),
-            *end,
-            "{code:?} for {turns} turns"
-        );
+        let stopped = run(&mut cpu, &mut bus, *turns);
         let before = seen(&cpu);
-        if end.is_some() {
-            assert_eq!(rt; run(&mut cpu, &mut bus, 3), *end, "it stays stopped");
-            assert_eq!(rt; seen(&cpu), before);
-        }
+        let again = run(&mut cpu, &mut bus, 3);
+        assert!(rt; (stopped, again) == (Some(*end), Some(*end)), "{code:?}");
+        assert!(rt; seen(&cpu) == before, "{code:?}");
     }
     Ok(())
 }
@@ -358,9 +350,26 @@ fn repetitions(rt: HostRuntime) -> Result<(), Fail> {
     Ok(())
 }
 
+/// Whether the next turns are of these kinds.
+fn makes(cpu: &mut Cpu, bus: &mut TestBus, kinds: &[Kind]) -> bool {
+    for kind in kinds {
+        if cpu.turn(bus).kind != *kind {
+            return false;
+        }
+    }
+    true
+}
+
 /// STI; STI; NOP; HLT with a request throughout: the acknowledgement comes after the NOP, and IRET lets the next one in at once.
 #[test]
 fn interrupts(rt: HostRuntime) -> Result<(), Fail> {
+    const LABELS: &[Label] = &[
+        Label::Ack(8),
+        Label::ScrW(0xFFFE, 0x0200),
+        Label::ScrW(0xFFFC, 0xFFFF),
+        Label::ScrW(0xFFFA, 3),
+    ];
+    let mut expect = Expect::new(&rt);
     let mut bus = TestBus::filled(rt.alloc(), 0)?;
     bus.write(0xFFFF0, &[0xFB, 0xFB, 0x90, 0xF4]);
     bus.write(32, &[0x00, 0x20, 0x00, 0x00]);
@@ -368,43 +377,25 @@ fn interrupts(rt: HostRuntime) -> Result<(), Fail> {
     let mut cpu = Cpu::reset();
     cpu.registers.set_segment(LoadableSegment::Ss, 0xB000);
     bus.request = Some(8);
-    let kinds = [
-        Kind::Instr,
-        Kind::Instr,
-        Kind::Instr,
-        Kind::Ack,
-        Kind::Instr,
-        Kind::Ack,
-        Kind::Instr,
-        Kind::Instr,
-        Kind::Wait,
-        Kind::Ack,
-    ];
-    for (i, kind) in kinds.iter().enumerate() {
-        let turn = cpu.turn(&mut bus);
-        assert_eq!(rt; turn.kind, *kind, "turn {i}");
-        if i == 3 {
-            let labels = [
-                Label::Ack(8),
-                Label::ScrW(0xFFFE, 0x0200),
-                Label::ScrW(0xFFFC, 0xFFFF),
-                Label::ScrW(0xFFFA, 3),
-            ];
-            assert!(rt; turn.labels.as_slice() == labels.as_slice());
-            assert!(rt; !cpu.registers.lets_interrupts_in());
-        }
-        if i == 4 || i == 8 {
-            assert!(rt; cpu.registers.lets_interrupts_in());
-            bus.request = Some(8);
-        }
-    }
-    assert_eq!(rt;
+    expect.holds(makes(&mut cpu, &mut bus, &[Kind::Instr, Kind::Instr, Kind::Instr]));
+    let turn = cpu.turn(&mut bus);
+    expect.holds(turn.kind == Kind::Ack && turn.labels.as_slice() == LABELS);
+    expect.holds(!cpu.registers.lets_interrupts_in());
+    expect.holds(makes(&mut cpu, &mut bus, &[Kind::Instr]));
+    expect.holds(cpu.registers.lets_interrupts_in());
+    bus.request = Some(8);
+    const SECOND: &[Kind] = &[Kind::Ack, Kind::Instr, Kind::Instr, Kind::Wait];
+    expect.holds(makes(&mut cpu, &mut bus, SECOND));
+    expect.holds(cpu.registers.lets_interrupts_in());
+    bus.request = Some(8);
+    expect.holds(makes(&mut cpu, &mut bus, &[Kind::Ack]));
+    expect.same(
         (
             cpu.registers.segment(Segment::Cs),
             cpu.registers.ip(),
-            cpu.registers.word(Register16::Sp)
+            cpu.registers.word(Register16::Sp),
         ),
-        (0, 0x2000, 0xFFFA)
+        (0, 0x2000, 0xFFFA),
     );
     Ok(())
 }
@@ -420,8 +411,7 @@ fn no_delay_after_popf(rt: HostRuntime) -> Result<(), Fail> {
     let mut cpu = Cpu::reset();
     cpu.registers.set_word(Register16::Sp, 0x100);
     bus.request = Some(8);
-    expect.same(cpu.turn(&mut bus).kind, Kind::Instr);
-    expect.same(cpu.turn(&mut bus).kind, Kind::Ack);
+    expect.holds(makes(&mut cpu, &mut bus, &[Kind::Instr, Kind::Ack]));
     expect.same(cpu.registers.ip(), 0x2000);
     Ok(())
 }

@@ -1,7 +1,177 @@
 //! Rows from the data sheet, worked by hand.
 
+use crate::digits::{byte, digit, number};
 use crate::expect::Expect;
 use pit8253::{Call, Pit, Reply, Segments, pulse_agrees, replay};
+use std::alloc::Global;
+use std::process::Abort;
+use std::test::Fail;
+
+fn put_byte(answers: &mut String, alloc: Global, byte: u8) -> Result<(), Fail> {
+    answers.push_str(&format!(in alloc; "{byte:02X} ")?)?;
+    Ok(())
+}
+
+fn put_signal(answers: &mut String, is_high: bool) -> Result<(), Fail> {
+    answers.push_str(if is_high { "up " } else { "no " })?;
+    Ok(())
+}
+
+/// One pulse, and then channel 0's count and OUT.
+fn count(pit: &mut Pit, answers: &mut String, alloc: Global) -> Result<(), Fail> {
+    pit.pulse(1);
+    pit.write(3, 0);
+    put_byte(answers, alloc, pit.read(0))?;
+    put_signal(answers, pit.out(0))
+}
+
+/// What a word does: `w0:A0` writes 0A0H to register 0, `r0` reads there, `g1` raises the gate of channel 2, `p12` are twelve pulses,
+/// which answer whether channel 0's OUT rose, `o0` asks for its OUT, and `c` counts by one pulse.
+fn make(pit: &mut Pit, word: &[u8], answers: &mut String, alloc: Global) -> Result<(), Fail> {
+    match word {
+        [b'c'] => count(pit, answers, alloc)?,
+        [b'g', gate] => pit.gate(*gate == b'1'),
+        [b'o', channel] => put_signal(answers, pit.out(digit(*channel)))?,
+        [b'r', register] => put_byte(answers, alloc, pit.read(digit(*register)))?,
+        [b'w', register, b':', high, low] => pit.write(digit(*register), byte(*high, *low)),
+        [b'p', digits @ ..] => put_signal(answers, pit.pulse(number(10, digits)))?,
+        _ => {}
+    }
+    Ok(())
+}
+
+/// What the words answer of a chip at reset: a byte by two digits, OUT by `up` or `no`.
+fn answers_of(alloc: Global, words: &str) -> Result<String, Fail> {
+    let mut pit = Pit::reset();
+    let mut answers = String::new(alloc);
+    for word in words.as_bytes().split(|character| *character == b' ') {
+        make(&mut pit, word, &mut answers, alloc)?;
+    }
+    Ok(answers)
+}
+
+/// Words, their answers, and why.
+const ROWS: &[(&str, &str, &str)] = &[
+    (
+        "w3:14 w0:04 p4 p1 w3:00 r0",
+        "no up 04 ",
+        "Mode 2: OUT rises at the fifth pulse, and a latch holds the count.",
+    ),
+    (
+        "w3:34 w0:E8 w0:03 p65535 w3:00 r0 r0",
+        "up D2 01 ",
+        "65,535 pulses of a count of 1,000: 65 whole periods and 535 pulses.",
+    ),
+    (
+        "w3:16 w0:05 p4 o0 p1 p1",
+        "no no no up ",
+        "Mode 3: the low part of 5 has two pulses, and OUT rises at the sixth.",
+    ),
+    (
+        "w3:14 w0:04 p2 w0:06 p8 o0 p1",
+        "no up no up ",
+        "A count that waits is taken up at the next period.",
+    ),
+    (
+        "w3:10 w0:02 p2 p1 p1 o0 r0",
+        "no up no up FF ",
+        "Mode 0: one rise, and the count goes on from 0 to 0FFH.",
+    ),
+    (
+        "w3:10 w0:01 p2 w0:03 o0 p3 p1",
+        "up no no up ",
+        "Mode 0 rewritten by one byte: OUT is low again at once, and the new count begins.",
+    ),
+    (
+        "w3:30 w0:02 w0:00 p3 w0:02 o0 p100 w3:00 r0 r0 w0:01 o0 p258 p1",
+        "up up no 00 00 no no up ",
+        "Mode 0 rewritten by two bytes: the first stops the count, the second makes OUT low.",
+    ),
+    (
+        "w3:16 w0:06 c c c c c c c",
+        "06 up 04 up 02 up 06 no 04 no 02 no 06 up ",
+        "Mode 3 counts by twos: an even count twice from N down to 2.",
+    ),
+    (
+        "w3:16 w0:07 c c c c c c c c",
+        "07 up 06 up 04 up 02 up 07 no 04 no 02 no 07 up ",
+        "An odd count falls by one first in the high part, and by three first in the low part.",
+    ),
+    (
+        "w3:14 w0:01 c c c p65535",
+        "01 up 01 up 01 up no ",
+        "N = 1: OUT stays high in mode 2, and the count is 1.",
+    ),
+    (
+        "w3:16 w0:01 c c c p65535",
+        "01 up 01 up 01 up no ",
+        "So it does in mode 3.",
+    ),
+    (
+        "w3:34 w0:00 w0:00 p65535 o0 w3:00 r0 r0 p1 o0 w3:00 r0 r0 p1 w3:00 r0 r0",
+        "no up 02 00 no no 01 00 up 00 00 ",
+        "A written 0 is 65,536: OUT of mode 2 is low at the last of these pulses.",
+    ),
+    (
+        "w3:34 w0:00 w0:02 p1 w3:0F p300 w3:00 r0 r0 r0 r0",
+        "no no 00 02 D4 00 ",
+        "A latch holds both bytes while the count goes on, and a second latch is ignored until they are read.",
+    ),
+    (
+        "w3:34 w0:34 w0:12 p1 r0 w3:00 p52 r0 r0 r0 r0",
+        "no 34 no 12 34 12 00 ",
+        "A latch between the two bytes of a reading: the high byte comes first, and two reads end it.",
+    ),
+    (
+        "w3:14 w0:09 p2 w3:00 w3:14 w0:05 p1 r0 p1 r0",
+        "no no 05 no 04 ",
+        "A control word ends a latch: what is read afterwards is the running count.",
+    ),
+    (
+        "w3:1C w0:04 c c c c c",
+        "04 up 03 up 02 up 01 no 04 up ",
+        "Bits 3 to 1 as 110 are mode 2 too: a count of 4 falls by one.",
+    ),
+    (
+        "w3:1E w0:04 c c c c c",
+        "04 up 02 up 04 no 02 no 04 up ",
+        "As 111 they are mode 3: it falls by two.",
+    ),
+    (
+        "w3:34 w0:77 w3:34 w0:34 w0:12 p1 r0 w3:34 w0:78 w0:56 p1 r0 r0",
+        "no 34 no 78 56 ",
+        "A control word between the two bytes of a count, and of a reading, begins both with the low byte again.",
+    ),
+    (
+        "w0:05 w3:00 o0 p7 r0 r3",
+        "up no 00 FF ",
+        "Without a mode a latch holds 0, and bytes for the count are ignored; the control register reads 0FFH.",
+    ),
+    (
+        "w3:14 w0:04 p2 w3:12 w3:18 w3:1A w3:15 w3:D4 r0",
+        "no 03 ",
+        "Modes 1, 4 and 5, BCD and channel 3 are ignored.",
+    ),
+    (
+        "w3:94 w2:04 p9 r2 g1 p4 o2 g0 o2 w2:06 p5 r2 g1 p1 r2",
+        "no 00 no no up no 01 no 06 ",
+        "Mode 2 on channel 2: a low gate holds OUT high and the count still, and a rise begins a new period.",
+    ),
+    (
+        "w3:96 w2:04 p9 r2 g1 p4 o2 g0 o2 w2:06 p5 r2 g1 p1 r2",
+        "no 00 no no up no 02 no 06 ",
+        "So it does in mode 3.",
+    ),
+];
+
+#[test]
+fn words_are_answered(rt: HostRuntime) -> Result<(), Fail> {
+    for (words, answers, why) in ROWS {
+        let found = answers_of(rt.alloc(), words)?;
+        assert_eq!(rt; found.as_str(), *answers, "{words}: {why}");
+    }
+    Ok(())
+}
 
 /// A chip at reset after these writes.
 fn set(writes: &[(u8, u8)]) -> Pit {
@@ -10,282 +180,6 @@ fn set(writes: &[(u8, u8)]) -> Pit {
         pit.write(*n, *v);
     }
     pit
-}
-
-/// Latches channel 0 and reads its low and high byte.
-fn latched_word(pit: &mut Pit) -> u16 {
-    pit.write(3, 0);
-    let low = pit.read(0);
-    u16::from(low) + 256 * u16::from(pit.read(0))
-}
-
-// Mode 2: OUT rises at the fifth pulse, and a latch holds the count.
-#[test]
-fn rate_rises(rt: HostRuntime) {
-    let mut expect = Expect::new(&rt);
-    let mut pit = set(&[(3, 0x14), (0, 4)]);
-    expect.holds(!pit.pulse(4));
-    expect.holds(pit.pulse(1));
-    pit.write(3, 0);
-    expect.same(pit.read(0), 4);
-}
-
-// 65,535 pulses of a count of 1,000: 65 whole periods and 535 pulses.
-#[test]
-fn long_run(rt: HostRuntime) {
-    let mut expect = Expect::new(&rt);
-    let mut pit = set(&[(3, 0x34), (0, 0xE8), (0, 3)]);
-    expect.holds(pit.pulse(65535));
-    pit.write(3, 0);
-    expect.same(pit.read(0), 0xD2);
-    expect.same(pit.read(0), 1);
-}
-
-#[test]
-fn square_wave(rt: HostRuntime) {
-    let mut expect = Expect::new(&rt);
-    let mut pit = set(&[(3, 0x16), (0, 5)]);
-    expect.holds(!pit.pulse(4));
-    expect.holds(!pit.out(0));
-    expect.holds(!pit.pulse(1));
-    expect.holds(pit.pulse(1));
-}
-
-// A count that waits is taken up at the next period.
-#[test]
-fn rewritten_rate(rt: HostRuntime) {
-    let mut expect = Expect::new(&rt);
-    let mut pit = set(&[(3, 0x14), (0, 4)]);
-    expect.holds(!pit.pulse(2));
-    pit.write(0, 6);
-    expect.holds(pit.pulse(8));
-    expect.holds(!pit.out(0));
-    expect.holds(pit.pulse(1));
-}
-
-// Mode 0: one rise, and the count goes on from 0 to 0FFH.
-#[test]
-fn terminal_count(rt: HostRuntime) {
-    let mut expect = Expect::new(&rt);
-    let mut pit = set(&[(3, 0x10), (0, 2)]);
-    expect.holds(!pit.pulse(2));
-    expect.holds(pit.pulse(1));
-    expect.holds(!pit.pulse(1));
-    expect.holds(pit.out(0));
-    expect.same(pit.read(0), 0xFF);
-}
-
-// Mode 0 rewritten by one byte: OUT is low again at once, and the new count begins.
-#[test]
-fn terminal_count_rewritten_by_one_byte(rt: HostRuntime) {
-    let mut expect = Expect::new(&rt);
-    let mut pit = set(&[(3, 0x10), (0, 1)]);
-    expect.holds(pit.pulse(2));
-    pit.write(0, 3);
-    expect.holds(!pit.out(0));
-    expect.holds(!pit.pulse(3));
-    expect.holds(pit.pulse(1));
-}
-
-// Mode 0 rewritten by two bytes: the first stops the count, the second makes OUT low.
-#[test]
-fn terminal_count_rewritten_by_two_bytes(rt: HostRuntime) {
-    let mut expect = Expect::new(&rt);
-    let mut pit = set(&[(3, 0x30), (0, 2), (0, 0)]);
-    expect.holds(pit.pulse(3));
-    pit.write(0, 2);
-    expect.holds(pit.out(0));
-    expect.holds(!pit.pulse(100));
-    expect.same(latched_word(&mut pit), 0);
-    pit.write(0, 1);
-    expect.holds(!pit.out(0));
-    expect.holds(!pit.pulse(258));
-    expect.holds(pit.pulse(1));
-}
-
-/// Whether channel 0's counts and OUT are these, pulse by pulse, from the first pulse on.
-fn counts_as(pit: &mut Pit, steps: &[(u8, bool)]) -> bool {
-    let mut same = true;
-    for (count, high) in steps {
-        pit.pulse(1);
-        pit.write(3, 0);
-        same &= pit.read(0) == *count && pit.out(0) == *high;
-    }
-    same
-}
-
-// Mode 3 counts by twos: an even count twice from N down to 2.
-#[test]
-fn square_wave_of_six(rt: HostRuntime) {
-    let mut pit = set(&[(3, 0x16), (0, 6)]);
-    const PERIOD: &[(u8, bool)] = &[
-        (6, true),
-        (4, true),
-        (2, true),
-        (6, false),
-        (4, false),
-        (2, false),
-        (6, true),
-    ];
-    assert!(rt; counts_as(&mut pit, PERIOD));
-}
-
-// An odd count falls by one first in the high part, and by three first in the low part.
-#[test]
-fn square_wave_of_seven(rt: HostRuntime) {
-    let mut pit = set(&[(3, 0x16), (0, 7)]);
-    const PERIOD: &[(u8, bool)] = &[
-        (7, true),
-        (6, true),
-        (4, true),
-        (2, true),
-        (7, false),
-        (4, false),
-        (2, false),
-        (7, true),
-    ];
-    assert!(rt; counts_as(&mut pit, PERIOD));
-}
-
-// N = 1: OUT stays high in modes 2 and 3, and the count is 1.
-#[test]
-fn period_of_one(rt: HostRuntime) {
-    for word in [0x14, 0x16] {
-        let mut pit = set(&[(3, word), (0, 1)]);
-        assert!(rt; counts_as(&mut pit, &[(1, true), (1, true), (1, true)]));
-        assert!(rt; !pit.pulse(65535));
-    }
-}
-
-// A written 0 is 65,536: OUT of mode 2 is low at the last of these pulses.
-#[test]
-fn count_of_zero(rt: HostRuntime) {
-    let mut expect = Expect::new(&rt);
-    let mut pit = set(&[(3, 0x34), (0, 0), (0, 0)]);
-    expect.holds(!pit.pulse(65535));
-    expect.holds(pit.out(0));
-    expect.same(latched_word(&mut pit), 2);
-    expect.holds(!pit.pulse(1));
-    expect.holds(!pit.out(0));
-    expect.same(latched_word(&mut pit), 1);
-    expect.holds(pit.pulse(1));
-    expect.same(latched_word(&mut pit), 0);
-}
-
-// A latch holds both bytes while the count goes on, and a second latch is ignored until they are read.
-#[test]
-fn latch_low_then_high(rt: HostRuntime) {
-    let mut expect = Expect::new(&rt);
-    let mut pit = set(&[(3, 0x34), (0, 0), (0, 2)]);
-    pit.pulse(1);
-    pit.write(3, 0x0F);
-    pit.pulse(300);
-    pit.write(3, 0);
-    expect.same(pit.read(0), 0);
-    expect.same(pit.read(0), 2);
-    expect.same(pit.read(0), 0xD4);
-    expect.same(pit.read(0), 0);
-}
-
-// A latch between the two bytes of a reading: the high byte comes first, and two reads end it.
-#[test]
-fn latch_between_two_bytes(rt: HostRuntime) {
-    let mut expect = Expect::new(&rt);
-    let mut pit = set(&[(3, 0x34), (0, 0x34), (0, 0x12)]);
-    pit.pulse(1);
-    expect.same(pit.read(0), 0x34);
-    pit.write(3, 0);
-    pit.pulse(0x34);
-    expect.same(pit.read(0), 0x12);
-    expect.same(pit.read(0), 0x34);
-    expect.same(pit.read(0), 0x12);
-    expect.same(pit.read(0), 0);
-}
-
-// A control word ends a latch: what is read afterwards is the running count.
-#[test]
-fn control_word_ends_a_latch(rt: HostRuntime) {
-    let mut expect = Expect::new(&rt);
-    let mut pit = set(&[(3, 0x14), (0, 9)]);
-    pit.pulse(2);
-    pit.write(3, 0);
-    pit.write(3, 0x14);
-    pit.write(0, 5);
-    pit.pulse(1);
-    expect.same(pit.read(0), 5);
-    pit.pulse(1);
-    expect.same(pit.read(0), 4);
-}
-
-// Bits 3 to 1 as 110 and 111 are modes 2 and 3 too: of a count of 4, the first falls by one and the second by two.
-#[test]
-fn modes_of_three_bits(rt: HostRuntime) {
-    let mut expect = Expect::new(&rt);
-    let mut rate = set(&[(3, 0x1C), (0, 4)]);
-    let steps = [(4, true), (3, true), (2, true), (1, false), (4, true)];
-    expect.holds(counts_as(&mut rate, &steps));
-    let mut square = set(&[(3, 0x1E), (0, 4)]);
-    let steps = [(4, true), (2, true), (4, false), (2, false), (4, true)];
-    expect.holds(counts_as(&mut square, &steps));
-}
-
-// A control word between the two bytes of a count, and of a reading, begins both with the low byte again.
-#[test]
-fn control_word_between_two_bytes(rt: HostRuntime) {
-    let mut expect = Expect::new(&rt);
-    let mut pit = set(&[(3, 0x34), (0, 0x77), (3, 0x34), (0, 0x34), (0, 0x12)]);
-    pit.pulse(1);
-    expect.same(pit.read(0), 0x34);
-    pit.write(3, 0x34);
-    pit.write(0, 0x78);
-    pit.write(0, 0x56);
-    pit.pulse(1);
-    expect.same(pit.read(0), 0x78);
-    expect.same(pit.read(0), 0x56);
-}
-
-// Without a mode a latch holds 0, and bytes for the count are ignored; the control register reads 0FFH.
-#[test]
-fn without_a_mode(rt: HostRuntime) {
-    let mut expect = Expect::new(&rt);
-    let mut pit = set(&[(0, 5), (3, 0)]);
-    expect.holds(pit.out(0));
-    expect.holds(!pit.pulse(7));
-    expect.same(pit.read(0), 0);
-    expect.same(pit.read(3), 0xFF);
-}
-
-// Modes 1, 4 and 5, BCD and channel 3 are ignored.
-#[test]
-fn ignored_control_words(rt: HostRuntime) {
-    let mut pit = set(&[(3, 0x14), (0, 4)]);
-    pit.pulse(2);
-    for word in [0x12, 0x18, 0x1A, 0x15, 0xD4] {
-        pit.write(3, word);
-    }
-    assert_eq!(rt; pit.read(0), 3);
-}
-
-// Modes 2 and 3 on channel 2: a low gate holds OUT high and the count still, and a rise begins a new period.
-#[test]
-fn gate_of_channel_two(rt: HostRuntime) {
-    for word in [0x94, 0x96] {
-        let mut pit = set(&[(3, word), (2, 4)]);
-        pit.pulse(9);
-        assert_eq!(rt; pit.read(2), 0);
-        pit.gate(true);
-        pit.pulse(4);
-        assert!(rt; !pit.out(2));
-        pit.gate(false);
-        assert!(rt; pit.out(2));
-        pit.write(2, 6);
-        pit.pulse(5);
-        let held = pit.read(2);
-        assert_eq!(rt; held, if word == 0x94 { 1 } else { 2 });
-        pit.gate(true);
-        pit.pulse(1);
-        assert_eq!(rt; pit.read(2), 6);
-    }
 }
 
 // Nine segments are enough, and these three channels need them.
@@ -300,22 +194,27 @@ fn segments_of_a_long_run(rt: HostRuntime) {
     expect.same(segments.made(), 9);
 }
 
-// By arithmetic or pulse by pulse: the same rises, OUT and counts.
+/// Whether pulses by arithmetic and one by one make the same of a count, so many pulses, another count and more pulses: the same rises,
+/// OUT and counts.
+fn agree(word: u8, count: u8, before: u16, after: u16) -> bool {
+    let mut quick = set(&[(3, word), (0, count)]);
+    let mut plain = set(&[(3, word), (0, count)]);
+    quick.pulse(before);
+    plain.pulse_singly(before);
+    quick.write(0, 3);
+    plain.write(0, 3);
+    quick.pulse(after) == plain.pulse_singly(after)
+        && quick.out(0) == plain.out(0)
+        && quick.read(0) == plain.read(0)
+}
+
 #[test]
 fn both_bodies(rt: HostRuntime) {
-    for count in 0..=9u8 {
-        for word in [0x10u8, 0x14, 0x16] {
+    for word in [0x10u8, 0x14, 0x16] {
+        for count in 0..=9u8 {
             for before in 0..12u16 {
-                for k in 0..40u16 {
-                    let mut quick = set(&[(3, word), (0, count)]);
-                    let mut plain = set(&[(3, word), (0, count)]);
-                    quick.pulse(before);
-                    plain.pulse_singly(before);
-                    quick.write(0, 3);
-                    plain.write(0, 3);
-                    assert_eq!(rt; quick.pulse(k), plain.pulse_singly(k));
-                    assert_eq!(rt; quick.out(0), plain.out(0));
-                    assert_eq!(rt; quick.read(0), plain.read(0));
+                for after in 0..40u16 {
+                    assert!(rt; agree(word, count, before, after));
                 }
             }
         }

@@ -34,27 +34,21 @@ fn has_tokens(
     let tokens = scan(alloc, text)?;
     assert_eq!(rt; tokens.len(), wanted.len(), "in {text:?}");
     for (token, (kind, slice, line)) in tokens.iter().zip(wanted) {
-        assert!(rt; token.kind == *kind, "{kind:?} in {text:?}");
-        assert!(rt; token.text == *slice, "{slice:?} in {text:?}");
-        assert_eq!(rt; token.line, *line, "in {text:?}");
+        let is_same = token.kind == *kind && token.text == *slice && token.line == *line;
+        assert!(rt; is_same, "{slice:?} in {text:?}");
     }
     Ok(())
 }
 
 /// Checks that a text has this fault at this line.
 fn has_fault(rt: &impl Abort, alloc: Global, text: &[u8], line: u32, number: Number) {
-    match scan(alloc, text) {
-        Ok(_) => assert!(rt; false, "no fault in {text:?}"),
-        Err(fault) => assert_eq!(rt; fault, Fault::At(0, line, number), "in {text:?}"),
-    }
+    let refused = scan(alloc, text).err();
+    assert!(rt; refused == Some(Fault::At(0, line, number)), "in {text:?}");
 }
 
-#[test]
-fn modules(rt: HostRuntime) -> Result<(), Fault> {
-    let alloc = rt.alloc();
-    has_tokens(
-        &rt,
-        alloc,
+/// Texts with several tokens, or with none.
+const TEXTS: &[(&[u8], &[(Kind, &[u8], u32)])] = &[
+    (
         b"M: DO; ; END M;",
         &[
             (IDENTIFIER, b"M", 1),
@@ -66,19 +60,50 @@ fn modules(rt: HostRuntime) -> Result<(), Fault> {
             (IDENTIFIER, b"M", 1),
             (SEMICOLON, b";", 1),
         ],
-    )?;
-    has_tokens(
-        &rt,
-        alloc,
+    ),
+    (
         b"M:\nDO",
         &[(IDENTIFIER, b"M", 1), (COLON, b":", 1), (DO, b"DO", 2)],
-    )
+    ),
+    (b"", &[]),
+    (b"\x1A\x1A", &[]),
+    (b"$LIST\x1A", &[]),
+    (b"'a' 'b'", &[(STRING, b"'a'", 1), (STRING, b"'b'", 1)]),
+    (
+        b"=<",
+        &[
+            (Kind::Special(Mark::Equal), b"=", 1),
+            (Kind::Special(Mark::Less), b"<", 1),
+        ],
+    ),
+    (
+        b"<<>",
+        &[
+            (Kind::Special(Mark::Less), b"<", 1),
+            (Kind::Special(Mark::NotEqual), b"<>", 1),
+        ],
+    ),
+    (
+        b"*/",
+        &[
+            (Kind::Special(Mark::Star), b"*", 1),
+            (Kind::Special(Mark::Slash), b"/", 1),
+        ],
+    ),
+];
+
+#[test]
+fn texts(rt: HostRuntime) -> Result<(), Fault> {
+    for (text, wanted) in TEXTS {
+        has_tokens(&rt, rt.alloc(), text, wanted)?;
+    }
+    Ok(())
 }
 
 #[test]
 fn blanks_and_lines(rt: HostRuntime) -> Result<(), Fault> {
     let alloc = rt.alloc();
-    let table: &[(&[u8], u32)] = &[
+    const ROWS: &[(&[u8], u32)] = &[
         (b"A", 1),
         (b" \t\x0CA ", 1),
         (b"\nA", 2),
@@ -101,19 +126,17 @@ fn blanks_and_lines(rt: HostRuntime) -> Result<(), Fault> {
         (b"A\n$ /* ' # \x80", 1),
         (b"/*\n$INCLUDE(F)\n*/A", 3),
     ];
-    for (text, line) in table {
+    for (text, line) in ROWS {
         has_tokens(&rt, alloc, text, &[(IDENTIFIER, b"A", *line)])?;
     }
-    has_tokens(&rt, alloc, b"", &[])?;
-    has_tokens(&rt, alloc, b"\x1A\x1A", &[])?;
-    has_tokens(&rt, alloc, b"$LIST\x1A", &[])
+    Ok(())
 }
 
 #[test]
 fn names(rt: HostRuntime) -> Result<(), Fault> {
     let mut expect = Expect::new(&rt);
     let alloc = rt.alloc();
-    let table: &[(&[u8], Kind)] = &[
+    const ROWS: &[(&[u8], Kind)] = &[
         (b"a", IDENTIFIER),
         (b"A1_b$2$", IDENTIFIER),
         (b"A23456789_123456789_123456789_1", IDENTIFIER),
@@ -127,7 +150,7 @@ fn names(rt: HostRuntime) -> Result<(), Fault> {
         (b"Literally", Kind::Reserved(Keyword::Literally)),
         (b"xor", Kind::Reserved(Keyword::Xor)),
     ];
-    for (text, kind) in table {
+    for (text, kind) in ROWS {
         has_tokens(&rt, alloc, text, &[(*kind, *text, 1)])?;
     }
     expect.holds(same_name(b"Fo$o_1", b"f$OO_1$"));
@@ -142,7 +165,7 @@ fn names(rt: HostRuntime) -> Result<(), Fault> {
 
 #[test]
 fn reserved_words(rt: HostRuntime) -> Result<(), Fault> {
-    let table: &[(&[u8], Keyword)] = &[
+    const ROWS: &[(&[u8], Keyword)] = &[
         (b"ADDRESS", Keyword::Address),
         (b"AND", Keyword::And),
         (b"AT", Keyword::At),
@@ -188,7 +211,7 @@ fn reserved_words(rt: HostRuntime) -> Result<(), Fault> {
         (b"WORD", Keyword::Word),
         (b"XOR", Keyword::Xor),
     ];
-    for (text, keyword) in table {
+    for (text, keyword) in ROWS {
         has_tokens(
             &rt,
             rt.alloc(),
@@ -201,7 +224,7 @@ fn reserved_words(rt: HostRuntime) -> Result<(), Fault> {
 
 #[test]
 fn numbers(rt: HostRuntime) -> Result<(), Fault> {
-    let table: &[(&[u8], u32)] = &[
+    const ROWS: &[(&[u8], u32)] = &[
         (b"0", 0),
         (b"12", 12),
         (b"12d", 12),
@@ -223,7 +246,7 @@ fn numbers(rt: HostRuntime) -> Result<(), Fault> {
         (b"3777777Q", 0xF_FFFF),
         (b"11111111111111111111B", 0xF_FFFF),
     ];
-    for (text, value) in table {
+    for (text, value) in ROWS {
         has_tokens(&rt, rt.alloc(), text, &[(Kind::Numeral(*value), *text, 1)])?;
     }
     Ok(())
@@ -232,7 +255,7 @@ fn numbers(rt: HostRuntime) -> Result<(), Fault> {
 #[test]
 fn strings(rt: HostRuntime) -> Result<(), Fail> {
     let alloc = rt.alloc();
-    let table: &[(&[u8], &[u8])] = &[
+    const ROWS: &[(&[u8], &[u8])] = &[
         (b"''", b""),
         (b"'A'", b"A"),
         (b"''''", b"'"),
@@ -240,24 +263,18 @@ fn strings(rt: HostRuntime) -> Result<(), Fail> {
         (b"'''a'''''", b"'a''"),
         (b"' ~/* $'", b" ~/* $"),
     ];
-    for (text, characters) in table {
+    for (text, characters) in ROWS {
         has_tokens(&rt, alloc, text, &[(STRING, *text, 1)])?;
         let value = string_value(alloc, text)?;
         assert!(rt; value.as_slice() == *characters, "{text:?}");
     }
-    has_tokens(
-        &rt,
-        alloc,
-        b"'a' 'b'",
-        &[(STRING, b"'a'", 1), (STRING, b"'b'", 1)],
-    )?;
     Ok(())
 }
 
 #[test]
 fn special_tokens(rt: HostRuntime) -> Result<(), Fault> {
     let alloc = rt.alloc();
-    let table: &[(&[u8], Mark)] = &[
+    const ROWS: &[(&[u8], Mark)] = &[
         (b"=", Mark::Equal),
         (b".", Mark::Period),
         (b"/", Mark::Slash),
@@ -277,41 +294,15 @@ fn special_tokens(rt: HostRuntime) -> Result<(), Fault> {
         (b">=", Mark::GreaterEqual),
         (b":=", Mark::Assign),
     ];
-    for (text, mark) in table {
+    for (text, mark) in ROWS {
         has_tokens(&rt, alloc, text, &[(Kind::Special(*mark), *text, 1)])?;
     }
-    has_tokens(
-        &rt,
-        alloc,
-        b"=<",
-        &[
-            (Kind::Special(Mark::Equal), b"=", 1),
-            (Kind::Special(Mark::Less), b"<", 1),
-        ],
-    )?;
-    has_tokens(
-        &rt,
-        alloc,
-        b"<<>",
-        &[
-            (Kind::Special(Mark::Less), b"<", 1),
-            (Kind::Special(Mark::NotEqual), b"<>", 1),
-        ],
-    )?;
-    has_tokens(
-        &rt,
-        alloc,
-        b"*/",
-        &[
-            (Kind::Special(Mark::Star), b"*", 1),
-            (Kind::Special(Mark::Slash), b"/", 1),
-        ],
-    )
+    Ok(())
 }
 
 #[test]
 fn faults(rt: HostRuntime) {
-    let table: &[(&[u8], u32, Number)] = &[
+    const ROWS: &[(&[u8], u32, Number)] = &[
         (b"#", 1, Number::E101),
         (b"A\n?", 2, Number::E101),
         (b"_A", 1, Number::E101),
@@ -357,7 +348,7 @@ fn faults(rt: HostRuntime) {
         (b"$INCLUDE\n#", 1, Number::E106),
         (b"#\n$INCLUDE", 1, Number::E101),
     ];
-    for (text, line, number) in table {
+    for (text, line, number) in ROWS {
         has_fault(&rt, rt.alloc(), text, *line, *number);
     }
 }
@@ -393,7 +384,7 @@ fn is(token: &Token<'_>, kind: Kind, text: &[u8]) -> bool {
 #[test]
 fn faults_of_literals(rt: HostRuntime) {
     let alloc = rt.alloc();
-    let table: &[(&[u8], Number)] = &[
+    const ROWS: &[(&[u8], Number)] = &[
         (b"a''#'''", Number::E101),
         (b"$LIST", Number::E101),
         (b"2B #", Number::E101),
@@ -403,7 +394,7 @@ fn faults_of_literals(rt: HostRuntime) {
         (b"''", Number::E204),
         (b"A '' B", Number::E204),
     ];
-    for (text, number) in table {
+    for (text, number) in ROWS {
         let refused = scan_literal(alloc, text, 9).err();
         assert!(rt; refused == Some(Fault::At(0, 9, *number)), "in {text:?}");
     }

@@ -38,16 +38,16 @@ fn shifts_and_turns(rt: HostRuntime) {
 #[test]
 fn reads_words_with_sign(rt: HostRuntime) {
     let mut expect = Expect::new(&rt);
-    let rows = [
+    const ROWS: &[(u16, i16)] = &[
         (0, 0),
         (0x7FFF, 32767),
         (0x8000, -32768),
         (0xFFF9, -7),
         (0xFFFF, -1),
     ];
-    for (word, number) in rows {
-        expect.same(signed16(word), number);
-        expect.same(unsigned16(number), word);
+    for (word, number) in ROWS {
+        expect.same(signed16(*word), *number);
+        expect.same(unsigned16(*number), *word);
     }
     // The remainder has the sign of the dividend.
     expect.same(idiv16(-7, 2), (-3, -1));
