@@ -7,8 +7,8 @@ use std::process::Abort;
 use std::test::Fail;
 use word86::Event;
 
-/// A call by its word: `w20:13` a byte and `W20:0813` a word that is written to port 20H, `r60` and `R60` what is read there, `k1E` a key
-/// and `t2` two pulses that come, `l` a look at INT, and `a` an acknowledgement, which answers nothing while INT is down.
+/// A call by its word: `w20:13` is a byte that is written to port 20H and `r60` what is read at port 60H, in capitals the same of a word,
+/// `k1E` a key and `t2` two pulses that come, `l` a look at INT, and `a` an acknowledgement, which answers nothing while INT is down.
 fn call_of(word: &[u8]) -> Option<Call> {
     match word {
         [b'a'] => Some(Call::Acknowledge),
