@@ -1,26 +1,33 @@
 #!/usr/bin/env python3
-"""Runs the kit's `rt ci` with one change: the check that proves a crate keeps its work in the crate's out/incremental.
+"""Runs the kit's `rt ci` with two changes.
 
-So one check serves twice: it is the proof, and the rounds of the crate's must-fail edits begin with what it kept. The proof is from
+The check that proves a crate whose must-fail edits are tried keeps its work, in the crate's out/incremental.
+So one check serves twice: it is the proof, and the rounds of the crate's edits begin with what it kept. The proof is from
 nothing all the same: the folder is removed before it begins, and nothing else writes there. The prover's last
 line then has the word incremental=trusted, which says that its verdict trusts whoever can write to that folder. That word, and no
-other, is let through beside those that `rt ci` lets through. A library is built whole, and not by its statements alone, so
-that `rt check` takes it. A program is compiled over what its check kept, which the compilers' runs of the prover look through again.
+other, is let through beside those that `rt ci` lets through. Such a library is built whole, and not by its statements alone, which the kit
+has for no check that keeps its work. A program is compiled over what its check kept, which the compilers' runs of the prover look through again.
+All other crates are proved as `rt ci` does: that takes a sixth less processor time with one job, and their libraries are small.
+They get their stamp, so that a check of `rt check` over them takes them as they are.
 
 And its plan, which goes by tools/costs. How much memory a check takes is what was measured, and a tenth more: `rt ci` reckons it by
 lines, which is twice as much for the crates on top, so that these waited for one another. And the check with the longest chain of
 others behind it gets three quarters of the processors, where `rt ci` shares them alike among all that may begin: plm_syntax, on
 which most others wait, got one. It leaves memory for the next one: where acceptance's tests took all, plm86 waited for their end.
+A check begins and ends with a minute or two in one process, and in between its jobs wait for one another: so half as many jobs more than
+there are processors may run, and all that does not lead gives way to what does.
 
-usage: tools/one_check.py      at the top of a repository; status and output are those of rt ci
+usage: tools/one_check.py [NAME..]      at the top of a repository, with the crates whose work is kept; status and output are those of rt ci
 """
 
 import contextlib
 import importlib.machinery
+import math
 import os
 import re
 import shutil
 import sys
+import threading
 import types
 from concurrent.futures import FIRST_COMPLETED, ThreadPoolExecutor, wait
 
@@ -37,6 +44,8 @@ KEPT = "out/incremental"
 A_LINE, A_JOB = 0.1, 0.15
 # Seconds of a task for which no memory is kept.
 SHORT = 60
+# How much less a check that does not lead gets of a processor that another wants: what Linux calls its niceness.
+GIVES_WAY = 5
 # The parts of the kit's crates that are called or changed here, and what they take.
 FORMS = {
     "build_rlib": ("self", "flags", "anew"),
@@ -72,7 +81,8 @@ def is_known(rt):
     is_formed = all(takes.get(name, ())[: len(form)] == form for name, form in FORMS.items())
     plans = getattr(getattr(rt, "in_lanes", None), "__code__", None)
     has_lanes = plans is not None and plans.co_varnames[: plans.co_argcount] == ("tasks",)
-    return is_formed and pattern.endswith(ENDING) and hasattr(crate, "cuts_libraries") and has_lanes and all(hasattr(rt, it) for it in WORDS)
+    has_words = all(hasattr(rt, it) for it in WORDS) and all(hasattr(crate, it) for it in ("cuts_libraries", "stamp"))
+    return is_formed and pattern.endswith(ENDING) and has_lanes and has_words
 
 
 def plan_as_measured(rt):
@@ -104,12 +114,27 @@ def jobs_within(memory, needs):
     return 1 if memory < needs else 2 + int((memory / needs - 1) / A_JOB)
 
 
+def giving_way(call):
+    """Returns the call so that what it starts gives way to others. (A thread has a niceness of its own, which what it starts begins with.)"""
+
+    def patient(*words):
+        os.setpriority(os.PRIO_PROCESS, threading.get_native_id(), GIVES_WAY)
+        return call(*words)
+
+    def in_its_own_thread(*words):
+        with ThreadPoolExecutor(1) as own:
+            return own.submit(patient, *words).result()
+
+    return in_its_own_thread
+
+
 def in_lanes(rt, tasks):
     """Runs the tasks of rt ci side by side, as its own in_lanes does, and returns what each gave. A task is what it waits for, its lines, its memory, and a
     call with what was given and how many jobs it may use. Longest chain first; what leads gets three of four processors, and all share the rest by their work."""
     known = costs.known()
     seconds = {key: known[key][0] if key in known else A_LINE * tasks[key][1] for key in tasks}
-    lanes, memory, behind = rt.processors(), 0.85 * rt.free(), chains(tasks, seconds)
+    memory, behind = 0.85 * rt.free(), chains(tasks, seconds)
+    of_leader, lanes = math.ceil(0.75 * rt.processors()), rt.processors() + rt.processors() // 2
     left, running, given = sorted(tasks, key=lambda it: -behind[it]), {}, {}
     # (13f ends what it began where it is itself ended; 13b has no such word)
     ending = getattr(rt, "ending", contextlib.nullcontext)
@@ -123,21 +148,21 @@ def in_lanes(rt, tasks):
                 room = memory - sum(held for _, held, _ in running.values())
                 if idle > 0 and (not running or needs <= room):
                     share = round(idle * seconds[key] / max(1, sum(seconds[it] for it in ready[at:])))
-                    wanted = max(share, lanes * 3 // 4) if key == leader else share
+                    wanted = max(share, of_leader) if key == leader else share
                     spare = room - max((tasks[it][2] for it in ready[at + 1 :] if seconds[it] > SHORT), default=0)
                     jobs = max(1, min(4, idle, wanted, jobs_within(spare, needs)))
                     left.remove(key)
-                    running[pool.submit(call, given, jobs)] = key, held_by(needs, jobs), jobs
+                    running[pool.submit(call if key == leader else giving_way(call), given, jobs)] = key, held_by(needs, jobs), jobs
             for it in wait(running, return_when=FIRST_COMPLETED).done:
                 given[running.pop(it)[0]] = it.result()
     return given
 
 
-def change(rt):
-    """Has each crate's check keep its work, and lets its word through."""
+def change(rt, kept):
+    """Has the checks of these crates keep their work, and lets their word through."""
 
     class Keeping(rt.Crate):
-        """A crate of rt ci, whose check keeps its work."""
+        """A crate of rt ci, whose check keeps its work if it is one of these."""
 
         def empty(self):
             """Removes what is kept, and returns whether it is gone. (rt ci tries a check that was killed once more.)"""
@@ -148,11 +173,17 @@ def change(rt):
             return is_gone
 
         def build_rlib(self, flags, anew):
-            self.cuts_libraries = False
-            return super().build_rlib([*flags, "--incremental", KEPT], anew) if self.empty() else 1
+            if self.name in kept:
+                self.cuts_libraries = False
+                return super().build_rlib([*flags, "--incremental", KEPT], anew) if self.empty() else 1
+            status = super().build_rlib(flags, anew)
+            if not status:
+                with open(f"{self.folder}/out/rlib/stamp", "w", encoding="utf-8") as it:
+                    it.write(self.stamp())
+            return status
 
         def ci(self, flags, tests):
-            if tests or not self.is_program:
+            if tests or not self.is_program or self.name not in kept:
                 return super().ci(flags, tests)
             if not self.empty():
                 return 1
@@ -171,7 +202,7 @@ def main():
     if not is_known(rt):
         print("one_check: this kit's rt is not known here: run rt ci", file=sys.stderr)
         return 2
-    change(rt)
+    change(rt, sys.argv[1:])
     plan_as_measured(rt)
     # (an rt that keeps what it proved is told to prove all: what it kept of earlier runs would leave no work for the edits)
     takes = rt.ci.__code__.co_varnames[: rt.ci.__code__.co_argcount]
