@@ -15,7 +15,8 @@ lines, which is twice as much for the crates on top, so that these waited for on
 others behind it gets three quarters of the processors, where `rt ci` shares them alike among all that may begin: plm_syntax, on
 which most others wait, got one. It leaves memory for the next one: where acceptance's tests took all, plm86 waited for their end.
 A check begins and ends with a minute or two in one process, and in between its jobs wait for one another: so half as many jobs more than
-there are processors may run, and all that does not lead gives way to what does.
+there are processors may run, and what is far from leading gives way. (Where all that did not lead gave way, layout_link did too, and listing_map,
+which had come to lead, waited nine minutes for it.)
 
 usage: tools/one_check.py [NAME..]      at the top of a repository, with the crates whose work is kept; status and output are those of rt ci
 """
@@ -44,8 +45,8 @@ KEPT = "out/incremental"
 A_LINE, A_JOB = 0.1, 0.15
 # Seconds of a task for which no memory is kept.
 SHORT = 60
-# How much less a check that does not lead gets of a processor that another wants: what Linux calls its niceness.
-GIVES_WAY = 5
+# A check gives way where the chain behind it is less than this part of the longest, and by so much: what Linux calls its niceness.
+FAR, GIVES_WAY = 0.65, 5
 # The parts of the kit's crates that are called or changed here, and what they take.
 FORMS = {
     "build_rlib": ("self", "flags", "anew"),
@@ -152,7 +153,8 @@ def in_lanes(rt, tasks):
                     spare = room - max((tasks[it][2] for it in ready[at + 1 :] if seconds[it] > SHORT), default=0)
                     jobs = max(1, min(4, idle, wanted, jobs_within(spare, needs)))
                     left.remove(key)
-                    running[pool.submit(call if key == leader else giving_way(call), given, jobs)] = key, held_by(needs, jobs), jobs
+                    begun = pool.submit(giving_way(call) if behind[key] < FAR * behind[leader] else call, given, jobs)
+                    running[begun] = key, held_by(needs, jobs), jobs
             for it in wait(running, return_when=FIRST_COMPLETED).done:
                 given[running.pop(it)[0]] = it.result()
     return given
