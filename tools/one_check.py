@@ -7,7 +7,7 @@ nothing all the same: the folder is removed before it begins, and nothing else w
 line then has the word incremental=trusted, which says that its verdict trusts whoever can write to that folder. That word, and no
 other, is let through beside those that `rt ci` lets through. Such a library is built whole, and not by its statements alone, which the kit
 has for no check that keeps its work. A program is compiled over what its check kept, which the compilers' runs of the prover look through again.
-All other crates are proved as `rt ci` does: that takes a sixth less processor time with one job, and their libraries are small.
+All other crates are proved as `rt ci` does: with three jobs plm_token takes two thirds of the time, and the libraries are small.
 They get their stamp, so that a check of `rt check` over them takes them as they are.
 
 And its plan, which goes by tools/costs. How much memory a check takes is what was measured, and a tenth more: `rt ci` reckons it by
