@@ -7,16 +7,15 @@ nothing all the same: the folder is removed before it begins, and nothing else w
 line then has the word incremental=trusted, which says that its verdict trusts whoever can write to that folder. That word, and no
 other, is let through beside those that `rt ci` lets through. Such a library is built whole, and not by its statements alone, which the kit
 has for no check that keeps its work. A program is compiled over what its check kept, which the compilers' runs of the prover look through again.
-All other crates are proved as `rt ci` does: with three jobs plm_token takes two thirds of the time, and the libraries are small.
-They get their stamp, so that a check of `rt check` over them takes them as they are.
+All other crates are proved as `rt ci` does, which takes less time, and their libraries hold their statements alone. These get their stamp, so that
+`rt check` takes them as they are: in a room they lie over the very libraries that they were built over.
 
 And its plan, which goes by tools/costs. How much memory a check takes is what was measured, and a tenth more: `rt ci` reckons it by
 lines, which is twice as much for the crates on top, so that these waited for one another. And the check with the longest chain of
 others behind it gets three quarters of the processors, where `rt ci` shares them alike among all that may begin: plm_syntax, on
 which most others wait, got one. It leaves memory for the next one: where acceptance's tests took all, plm86 waited for their end.
 A check begins and ends with a minute or two in one process, and in between its jobs wait for one another: so half as many jobs more than
-there are processors may run, and what is far from leading gives way. (Where all that did not lead gave way, layout_link did too, and listing_map,
-which had come to lead, waited nine minutes for it.)
+there are processors may run, and what is far from leading gives way. What is near does not: what comes to lead may wait for it.
 
 usage: tools/one_check.py [NAME..]      at the top of a repository, with the crates whose work is kept; status and output are those of rt ci
 """
