@@ -24,6 +24,12 @@ def identity():
     return said("rt", "version").strip() or "no kit: rt is not on the PATH"
 
 
+def logic_of(identity):
+    """Returns the logic that a kit's line about itself names, or the whole line where it names none."""
+    found = re.search(r"\blogic [0-9a-f]+\b", identity)
+    return found[0] if found else identity
+
+
 @functools.lru_cache(maxsize=None)
 def rattle():
     """Returns the path of the prover, which stands in the kit's folder bin/, beside the first page to read."""

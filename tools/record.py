@@ -1,21 +1,25 @@
 """The record of refused edits, tools/refused: it spares a gate the edits that a gate before it saw refused over the same text.
 
-What an edit comes to rests on the kit, and on what its digest is of: the tool that judges, the text of the edit's crate and of those below it, and the edit.
-Where the digest stands in the record under this kit, the edit need not be tried. A sample of these is tried all the same, which the hash of the commit with
-the record chooses: whole crates, since a crate's first edit costs as much as ten more. The record has a part for each kit that tried edits: a row `kit`
+What an edit comes to rests on the kit's logic, and on what its digest is of: the tool that judges, the edit, the crate that it is made in, and what the
+crates below state, which is all that a proof can cite of them. Comments, layout and the lists of derives are in no digest: what does not derive enough does not compile.
+(Kits of one logic prove the same statements. They may differ in how well they look for a proof, which is one thing that the sample is there for.)
+Where the digest stands in the record under a kit of this logic, the edit need not be tried. A sample of these is tried all the same, which the hash of the commit with
+the record chooses. The record has a part for each kit that tried edits: a row `kit`
 with its line about itself, and then its edits.
 """
 
 import hashlib
+import math
 import os
 import re
 import subprocess
 
 import kit
-from must_fail import PARTS, text_of
+import statements
+from must_fail import PARTS, read_edit, text_of
 
 TOOLS = os.path.dirname(os.path.realpath(__file__))
-# How much of what need not be tried is the sample, at least.
+# How much of what need not be tried is the sample.
 SAMPLE = 0.1
 
 
@@ -29,20 +33,26 @@ def digest(*texts):
 
 
 class Digests:
-    """The digests of a repository's crates, each with what it stands on, and of their edits."""
+    """The digests of a repository's crates, each with what those below it state, and of their edits."""
 
     def __init__(self, repository):
-        self.repository, self.crates = repository, {}
+        self.repository, self.made = repository, {}
         self.judge = digest(text_of(f"{TOOLS}/must_fail.py"))
 
-    def crate(self, name):
-        if name not in self.crates:
+    def of_files(self, name, parts, read):
+        """Returns the digest of a crate's files in these of its folders, read so, with its row of crates.txt and what the crates below it state."""
+        if (name, parts) not in self.made:
             folder = self.repository.folder(name)
-            files = sorted(f"{at}/{it}" for part in PARTS for at, _, names in os.walk(f"{folder}/{part}") for it in names)
-            texts = [text for it in files for text in (os.path.relpath(it, folder), text_of(it))]
+            files = sorted(os.path.relpath(f"{at}/{it}", folder) for part in parts for at, _, names in os.walk(f"{folder}/{part}") for it in names)
             rows = [it for it in text_of(f"{self.repository.top}/crates.txt").split("\n") if re.split(r"[ :]", it)[0] == name]
-            self.crates[name] = digest(self.judge, *rows, *map(self.crate, self.repository.deps[name]), *texts)
-        return self.crates[name]
+            self.made[name, parts] = digest(*rows, *map(self.statements, self.repository.deps[name]), *files, *read(folder, files))
+        return self.made[name, parts]
+
+    def statements(self, name):
+        return self.of_files(name, ("src", "specs"), statements.stated)
+
+    def crate(self, name):
+        return digest(self.judge, self.of_files(name, PARTS, statements.whole))
 
     def edits(self):
         """Returns the digest of each edit, by its crate's and its own name."""
@@ -70,20 +80,34 @@ def commit(top):
 
 
 def sample(names, of_commit):
-    """Returns a tenth or more of these edits: those of the crates that the commit's hash puts first."""
-    chosen = set()
-    for crate in sorted({it.split("/")[0] for it in names}, key=lambda it: digest(of_commit, it)):
-        if len(chosen) < SAMPLE * len(names):
-            chosen |= {it for it in names if it.split("/")[0] == crate}
-    return chosen
+    """Returns a tenth of these edits, which the commit's hash puts first: of one crate after another, since a crate's first edit costs as much as ten more."""
+    ordered = sorted(names, key=lambda it: (digest(of_commit, it.split("/")[0]), digest(of_commit, it)))
+    return set(ordered[: math.ceil(SAMPLE * len(names))])
 
 
 def spared(repository):
     """Returns the edits that need not be tried, and how many of the record are tried as its sample. Without a commit all are tried."""
-    of_commit, known = commit(repository.top), recorded(f"{repository.top}/tools/refused").get(kit.identity(), {})
-    held = {it for it, made in Digests(repository).edits().items() if known.get(it) == made} if of_commit else set()
+    of_commit, known = commit(repository.top), known_here(f"{repository.top}/tools/refused")
+    held = {it for it, made in Digests(repository).edits().items() if made in known.get(it, ()) and is_applied(repository, it)} if of_commit else set()
     tried = sample(held, of_commit)
     return held - tried, len(tried)
+
+
+def is_applied(repository, name):
+    """Returns whether an edit finds its text: a digest does not see how lines are laid out."""
+    crate, file = name.split("/")
+    folder = repository.folder(crate)
+    return read_edit(f"{folder}/must-fail/{file}", folder) is not None
+
+
+def known_here(path):
+    """Returns what a record says that counts on this kit: by the edits' names the digests under which kits of its logic saw them refused."""
+    known = {}
+    for of_kit, its in recorded(path).items():
+        if kit.logic_of(of_kit) == kit.logic_of(kit.identity()):
+            for name, made in its.items():
+                known.setdefault(name, set()).add(made)
+    return known
 
 
 def as_it_holds(repository, tried, refused):
