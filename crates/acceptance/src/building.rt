@@ -70,14 +70,12 @@ fn plain_operands_are_not_pushed(rt: HostRuntime) {
         b"M: DO; DECLARE B BYTE; B = 255; OUTPUT(300H) = B + 1; END M;",
         b"M: DO; DECLARE W WORD; W = 255; OUTWORD(300H) = W + 1; END M;",
     ];
+    let unused = Stack {
+        main: 0,
+        handler: 6,
+    };
     for text in texts {
-        assert_eq!(rt;
-            stack_of(alloc, text),
-            Ok(Stack {
-                main: 0,
-                handler: 6
-            })
-        );
+        assert!(rt; stack_of(alloc, text) == Ok(unused), "in {text:?}");
     }
 }
 
@@ -95,6 +93,6 @@ fn registers_that_an_interrupt_saves(rt: HostRuntime) -> Result<(), Fail> {
         address: false,
         frame: false,
     };
-    assert_eq!(rt; changed.as_slice(), [divides].as_slice());
+    assert!(rt; changed.as_slice() == [divides].as_slice());
     Ok(())
 }

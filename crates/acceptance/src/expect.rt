@@ -30,6 +30,11 @@ impl<'r, A: Abort> Expect<'r, A> {
         let count = self.count;
         assert!(self.rt; holds, "expectation {count}");
     }
+
+    /// This holds of a row.
+    pub(crate) fn holds_of<T: Debug + Drop>(&mut self, holds: bool, row: T) {
+        assert!(self.rt; holds, "{row:?}");
+    }
 }
 
 /// Whether a sink of this room took just the beginning of the text that it had room for, and failed once.

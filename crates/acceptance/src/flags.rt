@@ -524,38 +524,48 @@ fn divisions(rt: HostRuntime) {
 fn registers(rt: HostRuntime) {
     let mut expect = Expect::new(&rt);
     let mut regs = with_flags(0xFFFF);
-    regs.set_word(Register16::Ax, 0x1234);
-    regs.set_word(Register16::Dx, 0x3F8);
-    regs.set_word(Register16::Bx, 0xFFF0);
-    regs.set_word(Register16::Si, 0x20);
     regs.set_code_segment(0xF000);
     regs.set_ip(0x100);
     expect.same((regs.segment(Segment::Cs), regs.ip()), (0xF000, 0x100));
+    regs.set_word(Register16::Ax, 0x1234);
     regs.set_byte(Register8::Ah, 0x56);
-    regs.set_word(Register16::Di, 7);
-    regs.set_segment(LoadableSegment::Es, 0xB000);
     expect.same(
         (regs.word(Register16::Ax), regs.byte(Register8::Al)),
         (0x5634, 0x34),
     );
-    expect.same(
-        (
-            regs.word(Register16::Di),
-            regs.segment(LoadableSegment::Es.segment()),
-        ),
-        (7, 0xB000),
-    );
+    regs.set_segment(LoadableSegment::Es, 0xB000);
+    expect.same(regs.segment(LoadableSegment::Es.segment()), 0xB000);
+    regs.set_word(Register16::Dx, 0x3F8);
+    expect.same(regs.port(Port::Dx), 0x3F8);
+}
+
+#[test]
+fn offsets_wrap(rt: HostRuntime) {
+    let mut regs = with_flags(0);
+    regs.set_word(Register16::Bx, 0xFFF0);
+    regs.set_word(Register16::Si, 0x20);
     let address = Address::Based {
         base: Base::BxSi,
         displacement: 0xFFFE,
     };
-    expect.same((regs.offset(address), regs.port(Port::Dx)), (0x000E, 0x3F8));
+    Expect::new(&rt).same(regs.offset(address), 0x000E);
+}
+
+#[test]
+fn flags_are_set(rt: HostRuntime) {
+    let mut expect = Expect::new(&rt);
+    let mut regs = with_flags(0xFFFF);
     expect.same(regs.flags().bits(), 0xFD5);
     regs.set_flag(Flags::ZERO, false);
     expect.holds(regs.holds(Condition::Below) && !regs.holds(Condition::Equal));
     expect.holds(regs.lets_interrupts_in());
     regs.test(Width::Byte, 0x80, 0x80);
     expect.same(regs.flags().bits(), 0x790);
+}
+
+#[test]
+fn pairs_and_signs(rt: HostRuntime) {
+    let mut expect = Expect::new(&rt);
     expect.same((sign_extended(0x80), sign_word(0x7FFF)), (0xFF80, 0));
     let operands: Operands<Register8, u8> = Operands::Immediate(
         RmOperand::Register(Register8::Cl),

@@ -87,7 +87,7 @@ fn answer_to(store: &Store, access: Option<Access>) -> u16 {
 }
 
 /// Where a run is looked at no further.
-#[derive(Debug, Clone, Copy, PartialEq, Eq)]
+#[derive(Clone, Copy, PartialEq, Eq)]
 enum End {
     Halted,
     Stopped(Stop),
@@ -439,7 +439,7 @@ fn rounds_wrap(rt: HostRuntime) -> Result<(), Fail> {
     wanted.extend_from_slice(&[reads(0), sends(0x301, 0)])?;
     let (found, end) = accesses_in(alloc, &[text], &[2], 1)?;
     expect.same(found.as_slice(), wanted.as_slice());
-    expect.same(end, End::Halted);
+    expect.holds(end == End::Halted);
     Ok(())
 }
 
@@ -472,7 +472,7 @@ fn rounds_read_the_base(rt: HostRuntime) -> Result<(), Fail> {
     wanted.push(reads(3))?;
     let (found, end) = accesses_in(alloc, &[text], &[2, 4, 5, 6], 2)?;
     expect.same(found.as_slice(), wanted.as_slice());
-    expect.same(end, End::Halted);
+    expect.holds(end == End::Halted);
     Ok(())
 }
 
@@ -522,10 +522,10 @@ fn is_serving(rt: &impl Abort, code: &Code) {
         Instruction::Finish,
     ];
     let mut expect = Expect::new(rt);
-    expect.same(code.serving(9), Routine::Procedure(1));
-    expect.same(code.serving(8), Routine::Unserved);
-    expect.same(code.instructions(Routine::Procedure(0)), CALLED);
-    expect.same(code.instructions(Routine::Procedure(1)), SERVING);
+    expect.holds(code.serving(9) == Routine::Procedure(1));
+    expect.holds(code.serving(8) == Routine::Unserved);
+    expect.holds(code.instructions(Routine::Procedure(0)) == CALLED);
+    expect.holds(code.instructions(Routine::Procedure(1)) == SERVING);
     // The interrupt procedure calls the other one, which stands before it.
     expect.same(code.order.as_slice(), [0, 1].as_slice());
 }

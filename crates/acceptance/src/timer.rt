@@ -166,9 +166,10 @@ const ROWS: &[(&str, &str, &str)] = &[
 
 #[test]
 fn words_are_answered(rt: HostRuntime) -> Result<(), Fail> {
+    let mut expect = Expect::new(&rt);
     for (words, answers, why) in ROWS {
-        let found = answers_of(rt.alloc(), words)?;
-        assert_eq!(rt; found.as_str(), *answers, "{words}: {why}");
+        let is_answered = answers_of(rt.alloc(), words)?.as_str() == *answers;
+        expect.holds_of(is_answered, (*words, *why));
     }
     Ok(())
 }

@@ -24,30 +24,36 @@ const END: Kind = Kind::Reserved(Keyword::End);
 
 const DECLARE: Kind = Kind::Reserved(Keyword::Declare);
 
-/// Checks that a text has just these tokens, each with its slice and its line.
-fn has_tokens(
-    rt: &impl Abort,
-    alloc: Global,
-    text: &[u8],
-    wanted: &[(Kind, &[u8], u32)],
-) -> Result<(), Fault> {
-    let tokens = scan(alloc, text)?;
-    assert_eq!(rt; tokens.len(), wanted.len(), "in {text:?}");
-    for (token, (kind, slice, line)) in tokens.iter().zip(wanted) {
-        let is_same = token.kind == *kind && token.text == *slice && token.line == *line;
-        assert!(rt; is_same, "{slice:?} in {text:?}");
-    }
-    Ok(())
+/// A token's kind, slice and line.
+type Row<'w> = (Kind, &'w [u8], u32);
+
+/// Whether a token is as its row says.
+fn is_token(token: &Token<'_>, (kind, slice, line): &Row<'_>) -> bool {
+    token.kind == *kind && token.text == *slice && token.line == *line
 }
 
-/// Checks that a text has this fault at this line.
-fn has_fault(rt: &impl Abort, alloc: Global, text: &[u8], line: u32, number: Number) {
-    let refused = scan(alloc, text).err();
-    assert!(rt; refused == Some(Fault::At(0, line, number)), "in {text:?}");
+/// Whether tokens are as their rows say, one after another.
+fn are_tokens(tokens: &[Token<'_>], rows: &[Row<'_>]) -> bool {
+    tokens.len() == rows.len()
+        && tokens
+            .iter()
+            .zip(rows)
+            .all(|(token, row)| is_token(token, row))
+}
+
+/// Whether a text has just these tokens.
+fn has_tokens(alloc: Global, text: &[u8], rows: &[Row<'_>]) -> Result<bool, Fault> {
+    let tokens = scan(alloc, text)?;
+    Ok(are_tokens(&tokens, rows))
+}
+
+/// Whether a text has this fault at this line.
+fn has_fault(alloc: Global, text: &[u8], line: u32, number: Number) -> bool {
+    scan(alloc, text).err() == Some(Fault::At(0, line, number))
 }
 
 /// Texts with several tokens, or with none.
-const TEXTS: &[(&[u8], &[(Kind, &[u8], u32)])] = &[
+const TEXTS: &[(&[u8], &[Row<'static>])] = &[
     (
         b"M: DO; ; END M;",
         &[
@@ -94,14 +100,16 @@ const TEXTS: &[(&[u8], &[(Kind, &[u8], u32)])] = &[
 
 #[test]
 fn texts(rt: HostRuntime) -> Result<(), Fault> {
+    let mut expect = Expect::new(&rt);
     for (text, wanted) in TEXTS {
-        has_tokens(&rt, rt.alloc(), text, wanted)?;
+        expect.holds_of(has_tokens(rt.alloc(), text, wanted)?, *text);
     }
     Ok(())
 }
 
 #[test]
 fn blanks_and_lines(rt: HostRuntime) -> Result<(), Fault> {
+    let mut expect = Expect::new(&rt);
     let alloc = rt.alloc();
     const ROWS: &[(&[u8], u32)] = &[
         (b"A", 1),
@@ -127,7 +135,10 @@ fn blanks_and_lines(rt: HostRuntime) -> Result<(), Fault> {
         (b"/*\n$INCLUDE(F)\n*/A", 3),
     ];
     for (text, line) in ROWS {
-        has_tokens(&rt, alloc, text, &[(IDENTIFIER, b"A", *line)])?;
+        expect.holds_of(
+            has_tokens(alloc, text, &[(IDENTIFIER, b"A", *line)])?,
+            *text,
+        );
     }
     Ok(())
 }
@@ -151,20 +162,27 @@ fn names(rt: HostRuntime) -> Result<(), Fault> {
         (b"xor", Kind::Reserved(Keyword::Xor)),
     ];
     for (text, kind) in ROWS {
-        has_tokens(&rt, alloc, text, &[(*kind, *text, 1)])?;
+        expect.holds_of(has_tokens(alloc, text, &[(*kind, *text, 1)])?, *text);
     }
+    Ok(())
+}
+
+#[test]
+fn normal_forms(rt: HostRuntime) -> Result<(), Fault> {
+    let mut expect = Expect::new(&rt);
     expect.holds(same_name(b"Fo$o_1", b"f$OO_1$"));
     expect.holds(!same_name(b"FOO", b"FO"));
     expect.holds(!same_name(b"FO", b"FOO"));
     expect.holds(!same_name(b"F_O", b"FO"));
     expect.holds(is_normal(b"F_O1") && !is_normal(b"F_o1") && !is_normal(b"F$O"));
-    let name = normal(alloc, b"$Fo$o_1$")?;
+    let name = normal(rt.alloc(), b"$Fo$o_1$")?;
     expect.holds(name.as_slice() == b"FOO_1".as_slice());
     Ok(())
 }
 
 #[test]
 fn reserved_words(rt: HostRuntime) -> Result<(), Fault> {
+    let mut expect = Expect::new(&rt);
     const ROWS: &[(&[u8], Keyword)] = &[
         (b"ADDRESS", Keyword::Address),
         (b"AND", Keyword::And),
@@ -212,18 +230,15 @@ fn reserved_words(rt: HostRuntime) -> Result<(), Fault> {
         (b"XOR", Keyword::Xor),
     ];
     for (text, keyword) in ROWS {
-        has_tokens(
-            &rt,
-            rt.alloc(),
-            text,
-            &[(Kind::Reserved(*keyword), *text, 1)],
-        )?;
+        let row = (Kind::Reserved(*keyword), *text, 1);
+        expect.holds_of(has_tokens(rt.alloc(), text, &[row])?, *text);
     }
     Ok(())
 }
 
 #[test]
 fn numbers(rt: HostRuntime) -> Result<(), Fault> {
+    let mut expect = Expect::new(&rt);
     const ROWS: &[(&[u8], u32)] = &[
         (b"0", 0),
         (b"12", 12),
@@ -247,13 +262,21 @@ fn numbers(rt: HostRuntime) -> Result<(), Fault> {
         (b"11111111111111111111B", 0xF_FFFF),
     ];
     for (text, value) in ROWS {
-        has_tokens(&rt, rt.alloc(), text, &[(Kind::Numeral(*value), *text, 1)])?;
+        let row = (Kind::Numeral(*value), *text, 1);
+        expect.holds_of(has_tokens(rt.alloc(), text, &[row])?, *text);
     }
     Ok(())
 }
 
+/// Whether a string has these characters.
+fn stands_for(alloc: Global, text: &[u8], characters: &[u8]) -> Result<bool, Fail> {
+    let value = string_value(alloc, text)?;
+    Ok(value.as_slice() == characters)
+}
+
 #[test]
 fn strings(rt: HostRuntime) -> Result<(), Fail> {
+    let mut expect = Expect::new(&rt);
     let alloc = rt.alloc();
     const ROWS: &[(&[u8], &[u8])] = &[
         (b"''", b""),
@@ -264,15 +287,15 @@ fn strings(rt: HostRuntime) -> Result<(), Fail> {
         (b"' ~/* $'", b" ~/* $"),
     ];
     for (text, characters) in ROWS {
-        has_tokens(&rt, alloc, text, &[(STRING, *text, 1)])?;
-        let value = string_value(alloc, text)?;
-        assert!(rt; value.as_slice() == *characters, "{text:?}");
+        expect.holds_of(has_tokens(alloc, text, &[(STRING, *text, 1)])?, *text);
+        expect.holds_of(stands_for(alloc, text, characters)?, *text);
     }
     Ok(())
 }
 
 #[test]
 fn special_tokens(rt: HostRuntime) -> Result<(), Fault> {
+    let mut expect = Expect::new(&rt);
     let alloc = rt.alloc();
     const ROWS: &[(&[u8], Mark)] = &[
         (b"=", Mark::Equal),
@@ -295,13 +318,15 @@ fn special_tokens(rt: HostRuntime) -> Result<(), Fault> {
         (b":=", Mark::Assign),
     ];
     for (text, mark) in ROWS {
-        has_tokens(&rt, alloc, text, &[(Kind::Special(*mark), *text, 1)])?;
+        let row = (Kind::Special(*mark), *text, 1);
+        expect.holds_of(has_tokens(alloc, text, &[row])?, *text);
     }
     Ok(())
 }
 
 #[test]
 fn faults(rt: HostRuntime) {
+    let mut expect = Expect::new(&rt);
     const ROWS: &[(&[u8], u32, Number)] = &[
         (b"#", 1, Number::E101),
         (b"A\n?", 2, Number::E101),
@@ -349,40 +374,40 @@ fn faults(rt: HostRuntime) {
         (b"#\n$INCLUDE", 1, Number::E101),
     ];
     for (text, line, number) in ROWS {
-        has_fault(&rt, rt.alloc(), text, *line, *number);
+        expect.holds_of(has_fault(rt.alloc(), text, *line, *number), *text);
     }
 }
 
 #[test]
 fn long_sources(rt: HostRuntime) -> Result<(), Fault> {
+    let mut expect = Expect::new(&rt);
     let alloc = rt.alloc();
     let mut text = vec![in alloc; b' '; SOURCE_LIMIT]?;
-    has_tokens(&rt, alloc, text.as_slice(), &[])?;
+    expect.holds(has_tokens(alloc, text.as_slice(), &[])?);
     text.push(0x1A)?;
-    has_fault(&rt, alloc, text.as_slice(), 1, Number::E107);
+    expect.holds(has_fault(alloc, text.as_slice(), 1, Number::E107));
     text.push(b'#')?;
-    has_fault(&rt, alloc, text.as_slice(), 1, Number::E107);
+    expect.holds(has_fault(alloc, text.as_slice(), 1, Number::E107));
     Ok(())
 }
 
 #[test]
 fn literals(rt: HostRuntime) -> Result<(), Fault> {
+    let mut expect = Expect::new(&rt);
     let alloc = rt.alloc();
     let tokens = scan_literal(alloc, b"WHILE /* it''s */ 1", 7)?;
-    assert_eq!(rt; tokens.len(), 2);
-    assert!(rt; is(&tokens[0], Kind::Reserved(Keyword::While), b"WHILE"));
-    assert!(rt; is(&tokens[1], Kind::Numeral(1), b"1"));
-    assert!(rt; scan_literal(alloc, b"", 1)?.is_empty());
+    let rows = [
+        (Kind::Reserved(Keyword::While), b"WHILE".as_slice(), 7),
+        (Kind::Numeral(1), b"1".as_slice(), 7),
+    ];
+    expect.holds(are_tokens(&tokens, &rows));
+    expect.holds(scan_literal(alloc, b"", 1)?.is_empty());
     Ok(())
-}
-
-/// Whether a token of line 7 is of this kind and text.
-fn is(token: &Token<'_>, kind: Kind, text: &[u8]) -> bool {
-    token.kind == kind && token.text == text && token.line == 7
 }
 
 #[test]
 fn faults_of_literals(rt: HostRuntime) {
+    let mut expect = Expect::new(&rt);
     let alloc = rt.alloc();
     const ROWS: &[(&[u8], Number)] = &[
         (b"a''#'''", Number::E101),
@@ -396,6 +421,6 @@ fn faults_of_literals(rt: HostRuntime) {
     ];
     for (text, number) in ROWS {
         let refused = scan_literal(alloc, text, 9).err();
-        assert!(rt; refused == Some(Fault::At(0, 9, *number)), "in {text:?}");
+        expect.holds_of(refused == Some(Fault::At(0, 9, *number)), *text);
     }
 }

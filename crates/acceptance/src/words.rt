@@ -116,7 +116,7 @@ fn fills_memory(rt: HostRuntime) -> Result<(), Fail> {
     let memory = PowerOn::filled(rt.alloc(), 0xA5)?;
     expect.same(memory.ram().len(), RAM_SIZE);
     for part in [memory.ram(), memory.colour(), memory.monochrome()] {
-        assert!(rt; part.iter().all(|byte| *byte == 0xA5));
+        expect.holds(part.iter().all(|byte| *byte == 0xA5));
     }
     let (ram, colour, monochrome) = memory.into_parts();
     expect.same(colour.len(), PAGE_SIZE);
