@@ -4,7 +4,7 @@ use crate::showing::COLUMNS;
 use word86::Page;
 
 /// The colours of a place, by their numbers on the colour adapter: of its character, and of what lies behind it.
-#[derive(Debug, Clone, Copy, PartialEq, Eq)]
+#[derive(Clone, Copy, PartialEq, Eq)]
 pub(crate) struct Colours {
     pub front: u8,
     pub back: u8,

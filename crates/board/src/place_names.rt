@@ -5,7 +5,7 @@ use std::alloc::{AllocError, Global};
 use word86::Label;
 
 /// What a name is of.
-#[derive(Debug, Clone, Copy, PartialEq, Eq)]
+#[derive(Clone, Copy, PartialEq, Eq)]
 enum Sort {
     Colour,
     Monochrome,
@@ -14,7 +14,7 @@ enum Sort {
 }
 
 /// A name, what it is of, and the places that it takes there.
-#[derive(Debug, Clone, Copy)]
+#[derive(Clone, Copy)]
 pub struct PlaceName<'a> {
     sort: Sort,
     first: u16,

@@ -11,7 +11,7 @@ use std::alloc::Global;
 use word86::{Event, Fault, Number};
 
 /// What a line of a schedule says, unless it is blank or a comment.
-#[derive(Debug, Clone, Copy, PartialEq, Eq)]
+#[derive(Clone, Copy, PartialEq, Eq)]
 pub(crate) enum Item {
     Fill(u8),
     At(u32, Event),
@@ -19,7 +19,7 @@ pub(crate) enum Item {
 }
 
 /// What the lines so far came to.
-#[derive(Debug, Drop)]
+#[derive(Drop)]
 pub(crate) struct Reading {
     pub(crate) fill: Option<u8>,
     pub(crate) timetable: Timetable,

@@ -11,7 +11,7 @@ use std::alloc::Global;
 use word86::{Event, Fault, Number};
 
 /// A schedule: the byte that memory holds at power-on, the events of each turn, and the turn at which the run stops.
-#[derive(Debug, Drop)]
+#[derive(Drop)]
 pub struct Schedule {
     fill: u8,
     stop: u32,

@@ -105,7 +105,7 @@ pub fn put_registers(alloc: Global, text: &mut Vec<u8>, board: &Board) -> Result
 }
 
 /// The addresses from one through another.
-#[derive(Debug, Clone, Copy)]
+#[derive(Clone, Copy)]
 pub struct Addresses {
     from: u32,
     to: u32,

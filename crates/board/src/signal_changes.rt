@@ -13,7 +13,7 @@ use word86::{Event, Label, Width};
 
 /// What is shown: a line of one bit, the vector of acknowledgements, or a port by its number among those that were met; and that an
 /// interrupt was acknowledged, or something passed at a port.
-#[derive(Debug, Clone, Copy, PartialEq, Eq)]
+#[derive(Clone, Copy, PartialEq, Eq)]
 enum Signal {
     Interrupt,
     Timer,
@@ -31,7 +31,7 @@ struct Change {
 }
 
 /// A port that was met: whether it was read or written, and how wide.
-#[derive(Debug, Clone, Copy, PartialEq, Eq)]
+#[derive(Clone, Copy, PartialEq, Eq)]
 struct PortSignal {
     port: u16,
     is_read: bool,

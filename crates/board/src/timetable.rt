@@ -8,7 +8,7 @@ use std::alloc::Global;
 use word86::{Event, Fault};
 
 /// Events and their turns, which do not fall.
-#[derive(Debug, Drop)]
+#[derive(Drop)]
 pub(crate) struct Timetable {
     turns: Vec<u32>,
     events: Vec<Event>,

@@ -22,7 +22,7 @@ use std::alloc::{AllocError, Global};
 use word86::{Event, Fault, Label, Sink, WriterSink};
 
 /// What is wanted of a run beside its trace.
-#[derive(Debug, Clone, Copy)]
+#[derive(Clone, Copy)]
 pub struct Watch<'w> {
     /// In front of each line its turn.
     pub turns: bool,
@@ -33,7 +33,7 @@ pub struct Watch<'w> {
 }
 
 /// How a watched run ended, and how many turns it made.
-#[derive(Debug, Clone, Copy, PartialEq, Eq)]
+#[derive(Clone, Copy, PartialEq, Eq)]
 pub struct WatchedEnd {
     /// Whether it came to a stop, or met bytes that are no instruction.
     pub end: End,

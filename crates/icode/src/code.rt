@@ -9,7 +9,7 @@ use crate::instruction::Instruction;
 
 /// Whose instructions: main's; those of a procedure by its number; those for a vector without a procedure, which are used up at
 /// once. A quotient by what was read that there is not leads to one without instructions, where nothing goes on.
-#[derive(Debug, Clone, Copy, PartialEq, Eq)]
+#[derive(Clone, Copy, PartialEq, Eq)]
 pub enum Routine {
     Main,
     Procedure(usize),
@@ -18,14 +18,14 @@ pub enum Routine {
 }
 
 /// An instruction's place: its index among those of a routine.
-#[derive(Debug, Clone, Copy, PartialEq, Eq)]
+#[derive(Clone, Copy, PartialEq, Eq)]
 pub struct Position {
     pub routine: Routine,
     pub index: usize,
 }
 
 /// A word on the stack: a value, or where a call goes on.
-#[derive(Debug, Clone, Copy, PartialEq, Eq)]
+#[derive(Clone, Copy, PartialEq, Eq)]
 pub enum Word {
     Value(u16),
     Return(Position),

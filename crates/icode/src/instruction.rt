@@ -3,7 +3,7 @@
 use word86::{BinaryOperation, Place, UnaryOperation, Width};
 
 /// A relation between two whole numbers.
-#[derive(Debug, Clone, Copy, PartialEq, Eq)]
+#[derive(Clone, Copy, PartialEq, Eq)]
 pub enum Relation {
     Equal,
     NotEqual,
@@ -19,7 +19,7 @@ pub enum Relation {
 }
 
 /// An operator that takes its right operand where it lies.
-#[derive(Debug, Clone, Copy, PartialEq, Eq)]
+#[derive(Clone, Copy, PartialEq, Eq)]
 pub enum Direct {
     Add,
     Subtract,
@@ -29,7 +29,7 @@ pub enum Direct {
 }
 
 /// The right operand of what is done with low bytes.
-#[derive(Debug, Clone, Copy, PartialEq, Eq)]
+#[derive(Clone, Copy, PartialEq, Eq)]
 pub enum Right {
     /// The low byte of a number.
     Constant(u16),
@@ -40,7 +40,7 @@ pub enum Right {
 }
 
 /// What the low byte of the accumulator gets.
-#[derive(Debug, Clone, Copy, PartialEq, Eq)]
+#[derive(Clone, Copy, PartialEq, Eq)]
 pub enum LowByte {
     /// That of a number.
     Constant(u16),
@@ -58,7 +58,7 @@ pub enum LowByte {
 }
 
 /// What becomes of the high byte.
-#[derive(Debug, Clone, Copy, PartialEq, Eq)]
+#[derive(Clone, Copy, PartialEq, Eq)]
 pub enum High {
     /// It stays: that of the accumulator, or of the value that was on top.
     Kept,
@@ -67,7 +67,7 @@ pub enum High {
 }
 
 /// What a conditional jump asks.
-#[derive(Debug, Clone, Copy, PartialEq, Eq)]
+#[derive(Clone, Copy, PartialEq, Eq)]
 pub enum Test {
     /// Whether the accumulator is odd.
     Odd,
@@ -87,7 +87,7 @@ pub enum Test {
 
 /// An instruction. A value of 8 bits stands in the accumulator and on the stack with a high byte of 0, unless a `Low` has kept the
 /// one that was there. An address is an offset in the segment of the RAM objects or, for a `Place` on the screen, in the screen's.
-#[derive(Debug, Clone, Copy, PartialEq, Eq)]
+#[derive(Clone, Copy, PartialEq, Eq)]
 pub enum Instruction {
     /// The accumulator gets a value.
     Constant(u16),

@@ -22,7 +22,7 @@ use std::alloc::Global;
 use word86::{Access, BinaryOperation, Place, Width, signed16};
 
 /// What a step does.
-#[derive(Debug, Clone, Copy, PartialEq, Eq)]
+#[derive(Clone, Copy, PartialEq, Eq)]
 pub enum Step {
     /// Nothing outside the context.
     Silent,
@@ -34,7 +34,7 @@ pub enum Step {
 }
 
 /// Why there is no step.
-#[derive(Debug, Clone, Copy, PartialEq, Eq)]
+#[derive(Clone, Copy, PartialEq, Eq)]
 pub enum Stop {
     /// The interrupt procedure is used up.
     Over,

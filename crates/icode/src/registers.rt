@@ -7,7 +7,7 @@ use crate::instruction::{Instruction, LowByte, Right, Test};
 use word86::{BinaryOperation, Width};
 
 /// The registers that instructions use, named by what they serve for, and whether each is among those that are meant.
-#[derive(Debug, Clone, Copy, PartialEq, Eq)]
+#[derive(Clone, Copy, PartialEq, Eq)]
 pub struct Registers {
     /// AX: the accumulator.
     pub accumulator: bool,

@@ -7,7 +7,7 @@ use frames::Stack;
 use plm_decl::Placement;
 
 /// How large a ROM is.
-#[derive(Debug, Clone, Copy, PartialEq, Eq)]
+#[derive(Clone, Copy, PartialEq, Eq)]
 pub enum RomSize {
     /// 8 KiB.
     Kib8,
@@ -34,7 +34,7 @@ impl RomSize {
 }
 
 /// A ROM, and what is known of it.
-#[derive(Debug, Drop)]
+#[derive(Drop)]
 pub struct Image {
     /// Its bytes, which end at address 0FFFFFH.
     pub rom: Vec<u8>,

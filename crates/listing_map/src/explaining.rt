@@ -71,7 +71,7 @@ use word86::{Fault, Number};
 pub const UNWRITTEN: &str = "the reader of standard output is gone, or its disk is full";
 
 /// What is said of a fault beside its line.
-#[derive(Debug, Drop)]
+#[derive(Drop)]
 pub struct Explanation<'a> {
     /// The line of the file, without its end.
     pub quoted: &'a [u8],

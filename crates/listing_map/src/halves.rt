@@ -6,7 +6,7 @@ ghost use Rattle.listing_map.specs.Halves.{interleaved};
 use std::alloc::{AllocError, Global};
 
 /// The bytes of a ROM at even addresses, and those at odd ones.
-#[derive(Debug, Drop)]
+#[derive(Drop)]
 pub struct RomHalves {
     pub even: Vec<u8>,
     pub odd: Vec<u8>,

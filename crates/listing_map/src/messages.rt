@@ -15,7 +15,7 @@ use unicode_width::{UnicodeWidthChar, UnicodeWidthStr};
 use word86::Number;
 
 /// Where in its file a message stands: the line, and the column in bytes, both from 1 on.
-#[derive(Debug, Clone, Copy)]
+#[derive(Clone, Copy)]
 pub struct Place {
     pub line: Option<u32>,
     pub column: Option<usize>,

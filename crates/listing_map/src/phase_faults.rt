@@ -8,14 +8,14 @@ use word86::Number;
 
 /// A token of a module: its number among those of the text, from 1 on, and its place among those that stand there once literals are
 /// replaced, from 0 on.
-#[derive(Debug, Clone, Copy, PartialEq, Eq)]
+#[derive(Clone, Copy, PartialEq, Eq)]
 pub struct TokenAt {
     pub number: u32,
     pub place: usize,
 }
 
 /// A fault, and where it stands.
-#[derive(Debug, Clone, Copy, PartialEq, Eq)]
+#[derive(Clone, Copy, PartialEq, Eq)]
 pub struct FaultAt {
     /// Its module, from 0 on.
     pub module: usize,

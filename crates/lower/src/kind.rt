@@ -2,7 +2,7 @@
 
 /// What a routine is, which decides how it ends: main; a procedure that is called and gives no value; one that gives a value; one that
 /// serves a vector.
-#[derive(Debug, Clone, Copy, PartialEq, Eq)]
+#[derive(Clone, Copy, PartialEq, Eq)]
 pub enum Kind {
     OfMain,
     Called,

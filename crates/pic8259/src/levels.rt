@@ -6,7 +6,7 @@ ghost use Rattle.pic8259.specs.Levels.{has, with_level, without_level, highest};
 use word86::is_set;
 
 /// A set of the eight levels: a byte in which bit k stands for level k.
-#[derive(Clone, Copy, Debug)]
+#[derive(Clone, Copy)]
 pub struct Levels {
     bits: u8,
 }

@@ -12,7 +12,7 @@ use crate::registers::Registers;
 ///
 /// What each call does is an equation over the definition's state: three sets of levels, the vector, the mode and the
 /// initialisation words still awaited. To read the INT line costs no search: each change finds the next level once.
-#[derive(Clone, Copy, Debug)]
+#[derive(Clone, Copy)]
 pub struct Pic {
     registers: Registers,
     /// The level that an acknowledgement would take.

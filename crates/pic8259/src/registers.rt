@@ -7,7 +7,7 @@ use crate::levels::Levels;
 use word86::is_set;
 
 /// The three sets, the vector, the mode and the words that are awaited.
-#[derive(Clone, Copy, Debug)]
+#[derive(Clone, Copy)]
 pub struct Registers {
     requested: Levels,
     in_service: Levels,

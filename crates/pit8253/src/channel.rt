@@ -6,7 +6,7 @@ use crate::element::Element;
 use crate::mode::{Access, Mode, Waveform};
 
 /// Counts the segments that channels made.
-#[derive(Debug, Drop)]
+#[derive(Drop)]
 pub struct Segments {
     made: u32,
 }
@@ -28,7 +28,7 @@ impl Segments {
 }
 
 /// A count that is held for reading.
-#[derive(Clone, Copy, Debug)]
+#[derive(Clone, Copy)]
 pub struct Latch {
     value: u16,
     /// The reads that it still serves.
@@ -36,7 +36,7 @@ pub struct Latch {
 }
 
 /// A channel of the timer. Pulses change it by `segment` alone.
-#[derive(Debug, Drop)]
+#[derive(Drop)]
 pub struct Channel {
     mode: Mode,
     access: Access,

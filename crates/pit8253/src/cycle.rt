@@ -6,7 +6,7 @@ ghost use Rattle.pit8253.specs.Progress.{count_at};
 use crate::mode::Waveform;
 
 /// The running period and the next one.
-#[derive(Clone, Copy, Debug)]
+#[derive(Clone, Copy)]
 pub struct Cycle {
     pub waveform: Waveform,
     pub period: u32,

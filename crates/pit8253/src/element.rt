@@ -7,7 +7,7 @@ use crate::mode::Mode;
 use crate::once::Once;
 
 /// What a channel counts.
-#[derive(Clone, Copy, Debug)]
+#[derive(Clone, Copy)]
 pub enum Element {
     /// Nothing yet; whether OUT is high.
     Still(bool),

@@ -1,7 +1,7 @@
 //! What a control word chooses (8253 data sheet, "Control Word Format").
 
 /// The waveform of a count that is counted again and again.
-#[derive(Clone, Copy, PartialEq, Eq, Debug)]
+#[derive(Clone, Copy, PartialEq, Eq)]
 pub enum Waveform {
     /// Mode 2, the rate generator: low for the last pulse of each period.
     Rate,
@@ -10,7 +10,7 @@ pub enum Waveform {
 }
 
 /// The mode of a channel.
-#[derive(Clone, Copy, Debug)]
+#[derive(Clone, Copy)]
 pub enum Mode {
     /// No control word has come yet.
     Unset,
@@ -21,7 +21,7 @@ pub enum Mode {
 }
 
 /// Which bytes of a count are written and read.
-#[derive(Clone, Copy, Debug)]
+#[derive(Clone, Copy)]
 pub enum Access {
     Low,
     High,

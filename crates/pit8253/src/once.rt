@@ -3,7 +3,7 @@
 ghost use Rattle.std.specs.Prelude.{◌≡◌, ℕ, ◌+◌, ◌-◌, ◌*◌, ◌%◌, ◌<◌, ◌≤◌, MatchBool};
 
 /// Mode 0. Past its end the count goes on through all 16 bits, and OUT stays high.
-#[derive(Clone, Copy, Debug)]
+#[derive(Clone, Copy)]
 pub struct Once {
     pub count: u32,
     /// The pulses counted, less whole turns of 65,536 past the end.

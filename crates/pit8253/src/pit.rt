@@ -47,7 +47,7 @@ fn advance_singly(channel: &mut Channel, k: u16, segments: &mut Segments) -> boo
 ///
 /// A channel's definition counts its pulses without a bound. So each call is stated for every state of the definition that
 /// the chip shows: it shows the definition's next state afterwards, and its answer is the definition's.
-#[derive(Debug, Drop)]
+#[derive(Drop)]
 pub struct Pit {
     zero: Channel,
     one: Channel,

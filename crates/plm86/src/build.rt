@@ -23,7 +23,7 @@ use std::alloc::Global;
 use word86::{Fault, PowerOn, Sink};
 
 /// A source: its file's name and its text, one module.
-#[derive(Debug, Clone, Copy)]
+#[derive(Clone, Copy)]
 pub struct Source<'a> {
     pub name: &'a str,
     pub text: &'a [u8],

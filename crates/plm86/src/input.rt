@@ -13,7 +13,7 @@ use std::io::{Error, ErrorKind, Read};
 const CHUNK: usize = 16_384;
 
 /// Why an input was not read.
-#[derive(Debug, Clone, Copy)]
+#[derive(Clone, Copy)]
 pub enum ReadFault {
     /// The reader failed, and why.
     Read(Error),

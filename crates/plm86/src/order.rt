@@ -7,7 +7,7 @@ use layout_link::RomSize;
 use std::alloc::{AllocError, AllocFailed};
 
 /// How messages are written on standard error.
-#[derive(Debug, Clone, Copy, PartialEq, Eq)]
+#[derive(Clone, Copy, PartialEq, Eq)]
 pub enum MessageFormat {
     /// Lines for people.
     Text,
@@ -16,7 +16,7 @@ pub enum MessageFormat {
 }
 
 /// What a command tells of faults on standard error.
-#[derive(Debug, Clone, Copy)]
+#[derive(Clone, Copy)]
 pub struct Telling {
     /// Whether each fault is explained.
     pub explains: bool,
@@ -36,7 +36,7 @@ pub const PLAIN: Telling = Telling {
 };
 
 /// The files of a ROM's other forms, and of its code as a listing, each where it is wanted, and what the ROM's free bytes hold.
-#[derive(Debug, Clone, Copy)]
+#[derive(Clone, Copy)]
 pub struct RomForms<'a> {
     /// Intel HEX.
     pub hex: Option<&'a str>,
@@ -51,7 +51,7 @@ pub struct RomForms<'a> {
 }
 
 /// What a run shows beside its trace.
-#[derive(Debug, Clone, Copy)]
+#[derive(Clone, Copy)]
 pub struct Showing<'a> {
     /// In front of each line its turn.
     pub turns: bool,
@@ -74,7 +74,7 @@ pub struct Showing<'a> {
 }
 
 /// What a run of the meaning shows beside its trace.
-#[derive(Debug, Clone, Copy)]
+#[derive(Clone, Copy)]
 pub struct Following<'a> {
     /// In front of each line its turn.
     pub turns: bool,
@@ -83,7 +83,7 @@ pub struct Following<'a> {
 }
 
 /// What the command line asks for.
-#[derive(Debug, Drop)]
+#[derive(Drop)]
 pub enum Order<'a> {
     /// `build -r KIB -o ROM [-l LISTING] [-m MAP] [--hex HEX] [--even EVEN] [--odd ODD] [--code CODE] [--pad BYTE] SOURCE...`: the ROM's
     /// size, its file's name, those of the listing, the map and the ROM's other forms where they are wanted, and those of the sources.
@@ -114,7 +114,7 @@ pub enum Order<'a> {
 }
 
 /// Why there is no order.
-#[derive(Debug, Drop)]
+#[derive(Drop)]
 pub enum OrderFault {
     /// The words are refused: the text that says why.
     Words(String),

@@ -12,7 +12,7 @@ use std::rt::Files;
 
 /// The files that a build writes, in this order: the ROM's, and those of the listing, the map, the ROM's other forms and its code where they
 /// are wanted.
-#[derive(Debug, Clone, Copy)]
+#[derive(Clone, Copy)]
 pub(crate) struct Outputs<'a> {
     pub rom: &'a str,
     pub listing: Option<&'a str>,
@@ -21,7 +21,7 @@ pub(crate) struct Outputs<'a> {
 }
 
 /// What a build or a run wants of a file.
-#[derive(Debug, Clone, Copy, PartialEq, Eq)]
+#[derive(Clone, Copy, PartialEq, Eq)]
 pub(crate) enum Purpose {
     Rom,
     Listing,
@@ -90,7 +90,7 @@ impl Purpose {
 }
 
 /// A file of a build or a run, by the name that it was given.
-#[derive(Debug, Clone, Copy)]
+#[derive(Clone, Copy)]
 pub(crate) struct Named<'a> {
     pub purpose: Purpose,
     pub name: &'a str,

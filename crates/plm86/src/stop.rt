@@ -9,7 +9,7 @@ use std::alloc::{AllocError, AllocFailed, Global};
 use word86::{Sink, put_all};
 
 /// Why the program stops early.
-#[derive(Debug, Drop)]
+#[derive(Drop)]
 pub enum Stop {
     /// A growth of memory was refused.
     Memory,
@@ -24,7 +24,7 @@ pub enum Stop {
 }
 
 /// What cannot be written.
-#[derive(Debug, Drop)]
+#[derive(Drop)]
 pub enum Unwritten {
     StandardOutput,
     File(String),

@@ -17,7 +17,7 @@ const LETTERS: &str = "abcdefghijklmnopqrstuvwxyz";
 
 /// An output that will be written: the name that it was given, the path that this leads to, and the path of what stands beside it
 /// until it is whole.
-#[derive(Debug, Drop)]
+#[derive(Drop)]
 pub(crate) struct Output<'a> {
     name: &'a str,
     path: PathBuf,

@@ -80,7 +80,7 @@ pub struct Field {
 }
 
 /// What an element is: a scalar, or a structure by its number.
-#[derive(Debug, Clone, Copy, PartialEq, Eq)]
+#[derive(Clone, Copy, PartialEq, Eq)]
 pub enum Form {
     Scalar(ScalarType),
     Structure(usize),

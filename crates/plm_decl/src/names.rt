@@ -16,7 +16,7 @@ use plm_syntax::{Linkage, Position};
 use word86::Page;
 
 /// Where a variable's bytes lie.
-#[derive(Debug, Clone, Copy, PartialEq, Eq)]
+#[derive(Clone, Copy, PartialEq, Eq)]
 pub enum Region {
     /// In a RAM object, by its number, from this many bytes after its first on.
     Ram(usize, u64),
@@ -50,7 +50,7 @@ pub enum Item {
 }
 
 /// An initial value.
-#[derive(Debug, Clone, Copy, PartialEq, Eq)]
+#[derive(Clone, Copy, PartialEq, Eq)]
 pub enum Datum {
     Byte(u8),
     Word(u16),

@@ -9,7 +9,7 @@ use crate::names::{Names, Object};
 use word86::{DATA_END, FIRST_OFFSET};
 
 /// An offset in the data segment for each RAM object, in order of declaration.
-#[derive(Debug, Drop)]
+#[derive(Drop)]
 pub struct Placement {
     offsets: Vec<u16>,
 }

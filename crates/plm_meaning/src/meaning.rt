@@ -35,7 +35,7 @@ use std::alloc::{AllocError, Global};
 use word86::{Event, Fault, Label, PowerOn};
 
 /// What comes next.
-#[derive(Debug, Clone, Copy, PartialEq, Eq)]
+#[derive(Clone, Copy, PartialEq, Eq)]
 pub enum Choice {
     /// A step of the interrupt procedure that runs, else of main.
     Program,

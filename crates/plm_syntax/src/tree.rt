@@ -1,14 +1,14 @@
 //! The syntax tree of a module.
 
 /// Where a token stands: its number among the module's tokens once literals are replaced, from 0, and its line, from 1.
-#[derive(Debug, Clone, Copy, PartialEq, Eq)]
+#[derive(Clone, Copy, PartialEq, Eq)]
 pub struct Position {
     pub token: u32,
     pub line: u32,
 }
 
 /// What a scalar's bytes are.
-#[derive(Debug, Clone, Copy, PartialEq, Eq)]
+#[derive(Clone, Copy, PartialEq, Eq)]
 pub enum Scalar {
     Byte,
     Word,
@@ -19,7 +19,7 @@ pub enum Scalar {
 }
 
 /// An operator before its operand.
-#[derive(Debug, Clone, Copy, PartialEq, Eq)]
+#[derive(Clone, Copy, PartialEq, Eq)]
 pub enum UnaryOperator {
     Plus,
     Minus,
@@ -27,7 +27,7 @@ pub enum UnaryOperator {
 }
 
 /// An operator between its operands.
-#[derive(Debug, Clone, Copy, PartialEq, Eq)]
+#[derive(Clone, Copy, PartialEq, Eq)]
 pub enum BinaryOperator {
     Multiply,
     Divide,
@@ -46,28 +46,28 @@ pub enum BinaryOperator {
 }
 
 /// `@X`, the location of X, or `.X`, its offset.
-#[derive(Debug, Clone, Copy, PartialEq, Eq)]
+#[derive(Clone, Copy, PartialEq, Eq)]
 pub enum LocationForm {
     Pointer,
     Offset,
 }
 
 /// A name where it stands, as the text spells it: in any case, with dollar signs.
-#[derive(Debug, Clone, Copy)]
+#[derive(Clone, Copy)]
 pub struct Name<'a> {
     pub text: &'a [u8],
     pub place: Position,
 }
 
 /// A number, 0 to 0FFFFFH, where it stands.
-#[derive(Debug, Clone, Copy)]
+#[derive(Clone, Copy)]
 pub struct Numeral {
     pub value: u32,
     pub place: Position,
 }
 
 /// A string where it stands, with its apostrophes; a doubled one is still two bytes.
-#[derive(Debug, Clone, Copy)]
+#[derive(Clone, Copy)]
 pub struct Text<'a> {
     pub text: &'a [u8],
     pub place: Position,
@@ -139,7 +139,7 @@ pub enum Value<'a> {
 }
 
 /// A declared variable, and its base.
-#[derive(Debug, Clone, Copy)]
+#[derive(Clone, Copy)]
 pub struct Variable<'a> {
     pub name: Name<'a>,
     pub base: Option<Name<'a>>,
@@ -153,7 +153,7 @@ pub enum Declared<'a> {
 }
 
 /// How many elements a variable has.
-#[derive(Debug, Clone, Copy)]
+#[derive(Clone, Copy)]
 pub enum Dimension {
     None,
     Numeral(Numeral),
@@ -223,7 +223,7 @@ pub enum Element<'a> {
 }
 
 /// How a procedure is joined with those of other modules.
-#[derive(Debug, Clone, Copy, PartialEq, Eq)]
+#[derive(Clone, Copy, PartialEq, Eq)]
 pub enum Linkage {
     None,
     Public,

@@ -1,7 +1,7 @@
 //! Tokens: the pieces of a text that the grammar sees.
 
 /// A word that the language reserves. It is no identifier, also where the grammar has no use for it.
-#[derive(Debug, Clone, Copy, PartialEq, Eq)]
+#[derive(Clone, Copy, PartialEq, Eq)]
 pub enum Keyword {
     Address,
     And,
@@ -50,7 +50,7 @@ pub enum Keyword {
 }
 
 /// A special token of one or two characters.
-#[derive(Debug, Clone, Copy, PartialEq, Eq)]
+#[derive(Clone, Copy, PartialEq, Eq)]
 pub enum Mark {
     /// `=`
     Equal,
@@ -91,7 +91,7 @@ pub enum Mark {
 }
 
 /// What a token is.
-#[derive(Debug, Clone, Copy, PartialEq, Eq)]
+#[derive(Clone, Copy, PartialEq, Eq)]
 pub enum Kind {
     /// A reserved word.
     Reserved(Keyword),
@@ -109,7 +109,7 @@ pub enum Kind {
 ///
 /// A string's slice has its apostrophes, and a doubled one is still two bytes: `string_value` gives what it stands
 /// for. A name is written in any case and with dollar signs: `same_name` compares two as the language does.
-#[derive(Debug, Clone, Copy)]
+#[derive(Clone, Copy)]
 pub struct Token<'a> {
     pub kind: Kind,
     pub text: &'a [u8],

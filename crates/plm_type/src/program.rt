@@ -11,14 +11,14 @@ pub struct Line {
 }
 
 /// A scalar that lies at a fixed place: a parameter, or an index.
-#[derive(Debug, Clone, Copy, PartialEq, Eq)]
+#[derive(Clone, Copy, PartialEq, Eq)]
 pub struct Scalar {
     pub width: Width,
     pub place: Place,
 }
 
 /// Where a variable's bytes begin, and how many its declaration takes.
-#[derive(Debug, Clone, Copy, PartialEq, Eq)]
+#[derive(Clone, Copy, PartialEq, Eq)]
 pub enum Anchor {
     /// In a RAM object: its number, the index of the first byte in it, and the size in bytes.
     InObject(usize, u64, u64),

@@ -12,7 +12,7 @@ use crate::ports::Ports;
 use word86::Event;
 
 /// A call of the port map.
-#[derive(Clone, Copy, PartialEq, Eq, Debug)]
+#[derive(Clone, Copy, PartialEq, Eq)]
 pub enum Call {
     /// A byte is read from this port.
     Read(u16),
@@ -31,7 +31,7 @@ pub enum Call {
 }
 
 /// What a call answers.
-#[derive(Clone, Copy, PartialEq, Eq, Debug)]
+#[derive(Clone, Copy, PartialEq, Eq)]
 pub enum Reply {
     Nothing,
     /// The byte that was read, or the vector.

@@ -4,7 +4,7 @@ ghost use Rattle.std.specs.Prelude.{◌≡◌};
 ghost use Rattle.ppi_kbd.specs.Device.{device_of};
 
 /// The chip that a port belongs to, with the number of its register (IBM PC Technical Reference, "I/O Address Map").
-#[derive(Clone, Copy, Debug)]
+#[derive(Clone, Copy)]
 pub enum Device {
     /// The 8259A, at 20H and 21H.
     Interrupts(u8),

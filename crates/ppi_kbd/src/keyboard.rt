@@ -3,7 +3,7 @@
 ghost use Rattle.std.specs.Prelude.{◌≡◌, ◌<◌, ◌≤◌};
 
 /// A register that the processor reads, and a ring of at most 16 codes that wait for it.
-#[derive(Clone, Copy, Debug)]
+#[derive(Clone, Copy)]
 pub struct Keyboard {
     register: Option<u8>,
     codes: [u8; 16],

@@ -20,7 +20,7 @@ const KEYBOARD_LEVEL: u8 = 1;
 ///
 /// Each call is stated for every state of the definition that the chips show: they show the definition's next state
 /// afterwards, and the answer is the definition's.
-#[derive(Debug, Drop)]
+#[derive(Drop)]
 pub struct Ports {
     pit: Pit,
     pic: Pic,

@@ -18,7 +18,7 @@ fn with_bit(byte: u8, bit: u8, set: bool) -> u8
 }
 
 /// Three ports, each an input or an output, C by halves.
-#[derive(Clone, Copy, Debug)]
+#[derive(Clone, Copy)]
 pub struct Ppi {
     a_in: bool,
     b_in: bool,

@@ -3,7 +3,7 @@
 use i86_table::{Condition, Instr, Open};
 
 /// What is added to a word when the parts are placed.
-#[derive(Debug, Clone, Copy, PartialEq, Eq)]
+#[derive(Clone, Copy, PartialEq, Eq)]
 pub enum Kind {
     /// The offset of an object of the data.
     Offset,
@@ -14,7 +14,7 @@ pub enum Kind {
 }
 
 /// A word to which something is added when the parts are placed, modulo 65,536.
-#[derive(Debug, Clone, Copy, PartialEq, Eq)]
+#[derive(Clone, Copy, PartialEq, Eq)]
 pub struct Fixup {
     /// Where the word stands in its part, from 0.
     pub place: usize,
@@ -25,7 +25,7 @@ pub struct Fixup {
 }
 
 /// What leads into a part.
-#[derive(Debug, Clone, Copy, PartialEq, Eq)]
+#[derive(Clone, Copy, PartialEq, Eq)]
 pub enum Entry {
     /// Start-up: it is main's.
     Main,

@@ -11,7 +11,7 @@ use crate::page::PAGE_SIZE;
 use std::alloc::Global;
 
 /// The bytes of RAM and of both pages of the screen when the power comes on: 131,072, and 4,000 of each page.
-#[derive(Debug, Drop)]
+#[derive(Drop)]
 pub struct PowerOn {
     ram: Vec<u8>,
     colour: Vec<u8>,

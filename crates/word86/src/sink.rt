@@ -43,7 +43,7 @@ pub fn put_all<S: Sink>(sink: &mut S, bytes: &[u8]) -> Result<(), SinkFault>
 }
 
 // How often a sink failed; at the greatest number of 64 bits the count stays.
-#[derive(Debug, Clone, Copy)]
+#[derive(Clone, Copy)]
 struct Failures(u64);
 
 impl Failures {
@@ -55,7 +55,7 @@ impl Failures {
 }
 
 /// A sink over memory that takes at most `step` bytes a call and `room` bytes in all.
-#[derive(Debug, Drop)]
+#[derive(Drop)]
 pub struct CutSink {
     bytes: Vec<u8>,
     room: usize,
@@ -119,7 +119,7 @@ impl Sink for CutSink {
 }
 
 /// A sink over a writer. It knows its bytes where the writer does.
-#[derive(Debug, Drop)]
+#[derive(Drop)]
 pub struct WriterSink<W> {
     writer: W,
     failures: Failures,

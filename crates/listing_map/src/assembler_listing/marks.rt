@@ -10,7 +10,7 @@ use plm_type::is_measure;
 use std::alloc::AllocError;
 
 /// The line of a statement, and the number of its first instruction. Behind the last statement stands a routine's end, which has no line.
-#[derive(Debug, Clone, Copy)]
+#[derive(Clone, Copy)]
 pub(crate) struct Mark {
     pub index: usize,
     pub line: Option<u32>,

@@ -4,7 +4,7 @@ use crate::explaining::studied::{Studied, number_of};
 use plm_token::{Keyword, Kind, Token};
 
 /// A block that is open: its DO, PROCEDURE or IF, its name if it has one, and its line.
-#[derive(Debug, Clone, Copy)]
+#[derive(Clone, Copy)]
 pub(crate) struct Opening<'a> {
     pub word: &'a [u8],
     pub name: &'a [u8],

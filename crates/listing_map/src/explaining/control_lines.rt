@@ -5,7 +5,7 @@ use plm_token::{normal, same_name};
 use std::alloc::{AllocError, Global};
 
 /// A control: its word with the dollar sign, and the line on which it stands first.
-#[derive(Debug, Clone, Copy)]
+#[derive(Clone, Copy)]
 pub struct Control<'a> {
     pub word: &'a [u8],
     pub line: u32,

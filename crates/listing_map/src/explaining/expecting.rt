@@ -10,7 +10,7 @@ use std::alloc::{AllocError, Global};
 use word86::Fault;
 
 /// Tokens that have a name together.
-#[derive(Debug, Clone, Copy, PartialEq, Eq)]
+#[derive(Clone, Copy, PartialEq, Eq)]
 enum Family {
     Expression,
     /// An expression's part behind a relation or a sign.

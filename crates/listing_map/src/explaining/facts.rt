@@ -5,7 +5,7 @@ use plm_token::{Keyword, Kind, Mark, Token};
 use std::alloc::{AllocError, Global};
 
 /// How many elements a name has.
-#[derive(Debug, Clone, Copy, PartialEq, Eq)]
+#[derive(Clone, Copy, PartialEq, Eq)]
 pub(crate) enum Elements {
     One,
     Many(u32),
@@ -14,7 +14,7 @@ pub(crate) enum Elements {
 }
 
 /// What an element is.
-#[derive(Debug, Clone, Copy, PartialEq, Eq)]
+#[derive(Clone, Copy, PartialEq, Eq)]
 pub(crate) enum Sort {
     Byte,
     Word,
@@ -28,7 +28,7 @@ pub(crate) enum Sort {
 }
 
 /// What a declaration says of a name.
-#[derive(Debug, Clone, Copy)]
+#[derive(Clone, Copy)]
 pub(crate) struct Facts {
     pub sort: Sort,
     pub elements: Elements,

@@ -62,7 +62,7 @@ pub(crate) enum FaultKind {
 }
 
 /// How far sources are gone through for a fault.
-#[derive(Debug, Clone, Copy, PartialEq, Eq)]
+#[derive(Clone, Copy, PartialEq, Eq)]
 pub(crate) enum Phase {
     /// Not at all.
     Apart,

@@ -11,7 +11,7 @@ use std::collections::BTreeMap;
 pub(crate) const LOOKED_AT: usize = 1_024;
 
 /// A declared name, and what is declared of it.
-#[derive(Debug, Clone, Copy)]
+#[derive(Clone, Copy)]
 pub(crate) struct Entry<'a> {
     pub declared: Declared<'a>,
     pub facts: Facts,

@@ -5,7 +5,7 @@ ghost use Rattle.std.specs.Prelude.{◌≤◌, ◌<◌, length};
 use std::alloc::{AllocError, Global};
 
 /// A token, a comment, a control line or a fault: its text, the line on which it begins, from 1, and how many bytes stand before it there.
-#[derive(Debug, Clone, Copy)]
+#[derive(Clone, Copy)]
 pub(crate) struct Piece<'a> {
     pub text: &'a [u8],
     pub line: u32,

@@ -9,7 +9,7 @@ use std::alloc::{AllocError, Global};
 use std::collections::BTreeMap;
 
 /// How modules share a name.
-#[derive(Debug, Clone, Copy, PartialEq, Eq)]
+#[derive(Clone, Copy, PartialEq, Eq)]
 pub(crate) enum Linked {
     Public,
     External,
@@ -26,14 +26,14 @@ impl Linked {
 }
 
 /// A name, by its module and its number there.
-#[derive(Debug, Clone, Copy, PartialEq, Eq)]
+#[derive(Clone, Copy, PartialEq, Eq)]
 struct Shared {
     module: usize,
     number: usize,
 }
 
 /// A token, by its module and its number there.
-#[derive(Debug, Clone, Copy, PartialEq, Eq)]
+#[derive(Clone, Copy, PartialEq, Eq)]
 struct TokenOf {
     module: usize,
     number: u32,

@@ -6,7 +6,7 @@ use plm_syntax::Position;
 use std::alloc::{AllocError, Global};
 
 /// A call, with its module.
-#[derive(Debug, Clone, Copy)]
+#[derive(Clone, Copy)]
 pub(crate) struct CallAt {
     pub module: usize,
     pub place: Position,

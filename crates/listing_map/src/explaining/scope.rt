@@ -4,7 +4,7 @@ use plm_token::{Keyword, Kind, Mark, Token};
 use std::alloc::{AllocError, Global};
 
 /// A declared name.
-#[derive(Debug, Clone, Copy)]
+#[derive(Clone, Copy)]
 pub(crate) struct Declared<'a> {
     pub token: Token<'a>,
     /// Its token's place in the list.
@@ -27,7 +27,7 @@ pub(crate) struct Declarations<'a> {
 }
 
 /// Where in a declaration a token stands.
-#[derive(Debug, Clone, Copy, PartialEq, Eq)]
+#[derive(Clone, Copy, PartialEq, Eq)]
 enum Stage {
     /// In no declaration.
     Outside,

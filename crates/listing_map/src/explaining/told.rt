@@ -5,7 +5,7 @@ use crate::explaining::sentence::{Part, sentence};
 use std::alloc::{AllocError, Global};
 
 /// How many bytes of the faulty line stand before what is marked, and how many are marked.
-#[derive(Debug, Clone, Copy, PartialEq, Eq)]
+#[derive(Clone, Copy, PartialEq, Eq)]
 pub(crate) struct Mark {
     pub column: usize,
     pub width: usize,
