@@ -535,6 +535,8 @@ fn registers(rt: HostRuntime) {
     );
     regs.set_segment(LoadableSegment::Es, 0xB000);
     expect.same(regs.segment(LoadableSegment::Es.segment()), 0xB000);
+    regs.set_word(Register16::Di, 7);
+    expect.same(regs.word(Register16::Di), 7);
     regs.set_word(Register16::Dx, 0x3F8);
     expect.same(regs.port(Port::Dx), 0x3F8);
 }
