@@ -3,8 +3,6 @@
 #![tactic(auto)]
 
 #[cfg(test)]
-mod board_roms;
-#[cfg(test)]
 mod board_runs;
 #[cfg(test)]
 mod building;
@@ -38,8 +36,6 @@ mod meaning;
 mod nodes;
 #[cfg(test)]
 mod ports;
-#[cfg(test)]
-mod processor;
 #[cfg(test)]
 mod schedules;
 #[cfg(test)]

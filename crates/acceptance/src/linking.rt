@@ -54,11 +54,6 @@ fn image_of(alloc: Global, text: &[u8], code: &[u8]) -> Result<Result<Image, Fau
 
 const NO_NAMES: &[u8] = b"M: DO; ; END M;";
 
-/// 8 KiB of a ROM without data: main is HLT and a jump back, and all vectors lead to IRET.
-pub(crate) fn idle_rom(alloc: Global) -> Result<Vec<u8>, Fail> {
-    Ok(image_of(alloc, NO_NAMES, &[0xF4, 0xEB, 0xFD])??.rom)
-}
-
 /// MOV AL,[B]; OUT 0E0H,AL; MOV AL,[W+5]; OUT 0E1H,AL; MOV AX,[C]; OUT 0E2H,AX; CALL; HLT; JMP back
 const CODE: &[u8] = &[
     0xA0, 0, 0, 0xE6, 0xE0, 0xA0, 5, 0, 0xE6, 0xE1, 0xA1, 0, 0, 0xE7, 0xE2, 0xE8, 0, 0, 0xF4, 0xEB,
