@@ -37,6 +37,15 @@ impl<'r, A: Abort> Expect<'r, A> {
     }
 }
 
+/// Each row has to hold.
+pub(crate) fn each<R, F: Fn(&R) -> bool>(rt: &impl Abort, rows: &[R], holds: F)
+    requires { F.IsAlwaysCallable holds }
+{
+    for (number, row) in rows.iter().enumerate() {
+        assert!(rt; holds(row), "row {number}");
+    }
+}
+
 /// Whether a sink of this room took just the beginning of the text that it had room for, and failed once.
 pub(crate) fn is_cut(sink: &CutSink, text: &[u8], room: usize) -> bool {
     Some(sink.bytes()) == text.get(..room) && sink.failures() == 1

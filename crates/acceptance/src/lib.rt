@@ -43,18 +43,12 @@ mod selection;
 #[cfg(test)]
 mod sources;
 #[cfg(test)]
-mod syntax;
-#[cfg(test)]
 mod timer;
 #[cfg(test)]
 mod tokens;
 #[cfg(test)]
 mod trace_lines;
 #[cfg(test)]
-mod type_rules;
-#[cfg(test)]
 mod typed_trees;
-#[cfg(test)]
-mod warnings;
 #[cfg(test)]
 mod words;

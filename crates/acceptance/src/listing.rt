@@ -1,10 +1,10 @@
-//! Listings of small sources, and maps of small programs, written by hand.
+//! Listings and maps of what no source gives, and through sinks that are full; those of sources are in tests/listings.
 
 use crate::expect::{Expect, is_cut};
 use crate::sources::{program_of, seen};
 use frames::Stack;
 use layout_link::Image;
-use listing_map::{listing, map, padded_rom, rom_halves, rom_hex};
+use listing_map::{listing, map};
 use plm_decl::Placement;
 use plm_type::{Program, Warning};
 use std::alloc::Global;
@@ -18,52 +18,13 @@ fn at(line: u32) -> Warning {
     Warning { module: 0, line }
 }
 
-// A line ends with a line feed, and a carriage return right before it is no part of the line.
-static SOURCES: [(&[u8], &[u8]); 13] = [
-    (b"", b""),
-    (b"\n", b"    1  \n"),
-    (b"\n\n", b"    1  \n    2  \n"),
-    (b"A", b"    1  A\n"),
-    (b"A\n", b"    1  A\n"),
-    (b"A\nB", b"    1  A\n    2  B\n"),
-    (b"A\n\nB\n", b"    1  A\n    2  \n    3  B\n"),
-    (b"A\r\n B \r\n", b"    1  A\n    2   B \n"),
-    (b"\r\n", b"    1  \n"),
-    (b"A\rB\n", b"    1  A\rB\n"),
-    (b"A\r", b"    1  A\r\n"),
-    (b"A\r\r\n", b"    1  A\r\n"),
-    (b"\n\r", b"    1  \n    2  \r\n"),
-];
-
-#[test]
-fn lists_each_line(rt: HostRuntime) -> Result<(), Fail> {
-    let mut expect = Expect::new(&rt);
-    for (source, text) in &SOURCES {
-        let mut sink = CutSink::new(rt.alloc(), 100, 100)?;
-        expect.same(listing(source, &[], &mut sink), Ok(()));
-        assert!(rt; sink.bytes() == *text, "of {source:?}");
-    }
-    Ok(())
-}
-
-#[test]
-fn lists_a_warning_behind_its_line(rt: HostRuntime) -> Result<(), Fail> {
-    let mut expect = Expect::new(&rt);
-    let source =
-        b"M: DO; P: PROCEDURE; END P; H: PROCEDURE INTERRUPT 8; CALL P; END H; CALL P; END M;";
-    let mut sink = CutSink::new(rt.alloc(), 200, 200)?;
-    expect.same(listing(source, &[at(1)], &mut sink), Ok(()));
-    expect.same(
-        sink.bytes(),
-        b"    1  M: DO; P: PROCEDURE; END P; H: PROCEDURE INTERRUPT 8; CALL P; END H; CALL P; END M;\n***** W1 procedure shared with an interrupt procedure\n".as_slice(),
-    );
-    Ok(())
-}
-
-// the lines of warnings may stand in any order, twice, and where the source has no line
+// an empty source has no line; the lines of warnings may stand in any order, twice, and where the source has no line
 #[test]
 fn lists_each_warning(rt: HostRuntime) -> Result<(), Fail> {
     let mut expect = Expect::new(&rt);
+    let mut empty = CutSink::new(rt.alloc(), 100, 100)?;
+    expect.same(listing(b"", &[], &mut empty), Ok(()));
+    expect.same(empty.bytes(), b"".as_slice());
     let warnings = [at(4), at(2), at(9), at(2), at(0), at(4294967295)];
     let mut sink = CutSink::new(rt.alloc(), 300, 7)?;
     expect.same(listing(b"A\nB\nC\nD", &warnings, &mut sink), Ok(()));
@@ -78,31 +39,6 @@ fn lists_each_warning(rt: HostRuntime) -> Result<(), Fail> {
 ***** W1 procedure shared with an interrupt procedure
 "
             .as_slice(),
-    );
-    Ok(())
-}
-
-// lines up to 99,999 have 8 bytes each here, and the next ones 9
-#[test]
-fn lists_numbers_of_five_and_six_digits(rt: HostRuntime) -> Result<(), Fail> {
-    let mut expect = Expect::new(&rt);
-    let source = vec![in rt.alloc(); b'\n'; 100_001]?;
-    let mut sink = CutSink::new(rt.alloc(), 800_010, 800_010)?;
-    expect.same(
-        listing(source.as_slice(), &[at(100_000)], &mut sink),
-        Err(CANNOT_WRITE),
-    );
-    let text = sink.bytes();
-    expect.same(text.get(..8), Some(b"    1  \n".as_slice()));
-    expect.same(text.get(64..80), Some(b"    9  \n   10  \n".as_slice()));
-    expect.same(text.get(784..800), Some(b"   99  \n  100  \n".as_slice()));
-    expect.same(
-        text.get(79_984..80_000),
-        Some(b" 9999  \n10000  \n".as_slice()),
-    );
-    expect.same(
-        text.get(799_984..),
-        Some(b"99999  \n100000  \n***** W1 ".as_slice()),
     );
     Ok(())
 }
@@ -217,67 +153,4 @@ fn maps_a_program(rt: HostRuntime) -> Result<(), Fail> {
     seen(program_of(alloc, &[PROGRAM]), |program| {
         maps_program(&rt, alloc, program)
     })?
-}
-
-const MAP_OF_TWO: &[u8] = b"ROM 64 KIB
-OBJECT 0000 EA60 N.X
-HANDLER 00 N.K
-HANDLER FF N.H
-STACK 0000 ABCD
-START 0
-";
-
-fn maps_both(rt: &impl Abort, alloc: Global, program: &Program) -> Result<(), Fail> {
-    let stack = Stack {
-        main: 0,
-        handler: 0xABCD,
-    };
-    let image = image_of(alloc, 65536, &[], stack, 0)?;
-    is_mapped(rt, alloc, &image, program, MAP_OF_TWO)
-}
-
-// an EXTERNAL procedure serves no interrupt
-#[test]
-fn maps_two_modules(rt: HostRuntime) -> Result<(), Fail> {
-    let alloc = rt.alloc();
-    let first = b"M: DO; H: PROCEDURE INTERRUPT 0 EXTERNAL; END H; ; END M;";
-    let second =
-        b"N: DO; DECLARE X (60000) BYTE; H: PROCEDURE INTERRUPT 255 PUBLIC; END H; K: PROCEDURE INTERRUPT 0; END K; END N;";
-    seen(program_of(alloc, &[first, second]), |program| {
-        maps_both(&rt, alloc, program)
-    })?
-}
-
-// `:` count, offset, kind, bytes, and what makes the sum a multiple of 256: 03 + FF + FD + 02 + 33 + 7A = 2AE, and 52 is missing to 300.
-#[test]
-fn writes_records(rt: HostRuntime) -> Result<(), Fail> {
-    let mut expect = Expect::new(&rt);
-    let mut sink = CutSink::new(rt.alloc(), 100, 7)?;
-    expect.same(rom_hex(&[0x02, 0x33, 0x7A], &mut sink), Ok(()));
-    expect.same(
-        sink.bytes(),
-        b":02000002F0000C\n:03FFFD0002337A52\n:00000001FF\n".as_slice(),
-    );
-    Ok(())
-}
-
-// Three bytes are taken, and the last 16 are the reset's.
-#[test]
-fn pads_a_rom(rt: HostRuntime) -> Result<(), Fail> {
-    let mut expect = Expect::new(&rt);
-    let padded = padded_rom(rt.alloc(), b"ABC...ABCDEFGHIJKLMNOP", 3, 0xFF)?;
-    expect.same(
-        padded.as_slice(),
-        b"ABC\xFF\xFF\xFFABCDEFGHIJKLMNOP".as_slice(),
-    );
-    Ok(())
-}
-
-#[test]
-fn parts_a_rom(rt: HostRuntime) -> Result<(), Fail> {
-    let mut expect = Expect::new(&rt);
-    let halves = rom_halves(rt.alloc(), b"ABCDE")?;
-    expect.same(halves.even.as_slice(), b"ACE".as_slice());
-    expect.same(halves.odd.as_slice(), b"BD".as_slice());
-    Ok(())
 }

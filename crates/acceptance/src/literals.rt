@@ -1,5 +1,7 @@
-//! Small sources with literals, and what comes out.
+//! Small sources with literals, and what comes out, token by token; what is refused is told by rows of tests/answers.txt.
 
+use crate::expect::each;
+use crate::sources::then;
 use plm_syntax::expand;
 use plm_token::{Token, scan};
 use std::alloc::Global;
@@ -19,35 +21,18 @@ fn are_alike(tokens: &[Token<'_>], others: &[Token<'_>]) -> bool {
     true
 }
 
-/// Checks that a source with its literals replaced has the tokens of another, and stops so.
+/// Whether a source with its literals replaced has the tokens of another, and stops so.
 fn gives(
-    rt: &impl Abort,
     alloc: Global,
     source: &[u8],
     wanted: &[u8],
     stop: Option<(Number, u32)>,
-) -> Result<(), Fault> {
-    let expansion = expand(alloc, scan(alloc, source)?)?;
+) -> Result<bool, Fault> {
     let tokens = scan(alloc, wanted)?;
-    assert!(rt; are_alike(&expansion.tokens, &tokens), "in {source:?}");
-    assert!(rt; expansion.stop == stop, "in {source:?}");
-    Ok(())
-}
-
-/// Checks what comes out of declarations, which put themselves out, and of what follows them.
-fn gives_behind(
-    rt: &impl Abort,
-    alloc: Global,
-    declared: &[u8],
-    source: &[u8],
-    wanted: &[u8],
-    stop: Option<(Number, u32)>,
-) -> Result<(), Fault> {
-    let mut text = Vec::from_slice(alloc, declared)?;
-    text.extend_from_slice(source)?;
-    let mut out = Vec::from_slice(alloc, declared)?;
-    out.extend_from_slice(wanted)?;
-    gives(rt, alloc, text.as_slice(), out.as_slice(), stop)
+    then(
+        scan(alloc, source).and_then(|tokens| expand(alloc, tokens)),
+        |expansion| { Ok(are_alike(&expansion.tokens, &tokens) && expansion.stop == stop) },
+    )
 }
 
 /// Eight literals, each of which names the one before it sixteen times, and the first of which is empty: read whole, the last one has
@@ -189,30 +174,40 @@ const ROWS: &[(&[u8], &[u8], &[u8], Option<(Number, u32)>)] = &[
     ),
 ];
 
-#[test]
-fn replacements(rt: HostRuntime) -> Result<(), Fault> {
-    for (declared, source, wanted, stop) in ROWS {
-        gives_behind(&rt, rt.alloc(), declared, source, wanted, *stop)?;
-    }
-    Ok(())
+/// Whether declarations put themselves out, and what follows them comes out so, and stops so.
+fn gives_behind(
+    alloc: Global,
+    declared: &[u8],
+    source: &[u8],
+    wanted: &[u8],
+    stop: Option<(Number, u32)>,
+) -> Result<bool, Fault> {
+    let mut text = Vec::from_slice(alloc, declared)?;
+    text.extend_from_slice(source)?;
+    let mut out = Vec::from_slice(alloc, declared)?;
+    out.extend_from_slice(wanted)?;
+    gives(alloc, &text, &out, stop)
 }
 
-/// A text that says so many times the same, with something before and behind it.
-fn many(
-    alloc: Global,
-    before: &[u8],
-    part: &[u8],
-    times: usize,
-    behind: &[u8],
-) -> Result<Vec<u8>, Fault> {
+#[test]
+fn replacements(rt: HostRuntime) {
+    let alloc = rt.alloc();
+    each(&rt, ROWS, |(declared, source, wanted, stop)| {
+        gives_behind(alloc, declared, source, wanted, *stop) == Ok(true)
+    });
+}
+
+/// A text that says 1,100 times the same, with something before and behind it.
+fn many(alloc: Global, before: &[u8], part: &[u8], behind: &[u8]) -> Result<Vec<u8>, Fault> {
     let mut text = Vec::from_slice(alloc, before)?;
-    for _ in 0..times {
+    for _ in 0..1_100 {
         text.extend_from_slice(part)?;
     }
     text.extend_from_slice(behind)?;
     Ok(text)
 }
 
+// With N alone, with both, with other texts of theirs, and without them.
 #[test]
 fn long_texts_declared_anew(rt: HostRuntime) -> Result<(), Fault> {
     let alloc = rt.alloc();
@@ -220,65 +215,16 @@ fn long_texts_declared_anew(rt: HostRuntime) -> Result<(), Fault> {
         alloc,
         b"DECLARE A LITERALLY 'N', B LITERALLY 'O', T LITERALLY '",
         b"A ",
-        1_100,
         b"1 A B', U LITERALLY 'T T B';",
     )?;
-    // With N alone, with both, with other texts of theirs, and without them.
     let source: &[u8] =
         b"DO; DECLARE N LITERALLY ''; T U DO; DECLARE O LITERALLY ''; T U END; T END; DO; DECLARE O LITERALLY 'N', N LITERALLY ''; U END; T";
-    let wanted: &[u8] =
-        b"DO; DECLARE N LITERALLY ''; 1 O 1 O 1 O O DO; DECLARE O LITERALLY ''; 1 1 1 END; 1 O END; DO; DECLARE O LITERALLY 'N', N LITERALLY ''; 1 1 END; ";
-    let wanted = many(alloc, wanted, b"N ", 1_100, b"1 N O")?;
-    gives_behind(
-        &rt,
+    let wanted = many(
         alloc,
-        declared.as_slice(),
-        source,
-        wanted.as_slice(),
-        None,
-    )
-}
-
-#[test]
-fn long_texts_too_deep(rt: HostRuntime) -> Result<(), Fault> {
-    let alloc = rt.alloc();
-    let chain =
-        b"DECLARE L0 LITERALLY '', L1 LITERALLY 'L0', L2 LITERALLY 'L1', L3 LITERALLY 'L2', L4 LITERALLY 'L3', L5 LITERALLY 'L4', L6 LITERALLY 'L5', L7 LITERALLY 'L6', S LITERALLY '";
-    let short = many(alloc, chain, b"L6 ", 40, b"', T LITERALLY '")?;
-    let declared = many(alloc, short.as_slice(), b"L7 ", 40, b"';\n")?;
-    // Eight replacements one inside the other, twice, and then nine, though L7 is known to put nothing out.
-    gives_behind(
-        &rt,
-        alloc,
-        declared.as_slice(),
-        b"L7 S L7 S 1\nT 2",
-        b"1",
-        Some((Number::E202, 3)),
-    )
-}
-
-#[test]
-fn many_tokens(rt: HostRuntime) -> Result<(), Fault> {
-    let alloc = rt.alloc();
-    let mut source = vec![in alloc; b';'; 65_535]?;
-    gives(&rt, alloc, source.as_slice(), source.as_slice(), None)?;
-    let mut longer = vec![in alloc; b';'; 65_536]?;
-    gives(
-        &rt,
-        alloc,
-        longer.as_slice(),
-        longer.as_slice(),
-        Some((Number::E205, 1)),
+        b"DO; DECLARE N LITERALLY ''; 1 O 1 O 1 O O DO; DECLARE O LITERALLY ''; 1 1 1 END; 1 O END; DO; DECLARE O LITERALLY 'N', N LITERALLY ''; 1 1 END; ",
+        b"N ",
+        b"1 N O",
     )?;
-    source.push(b'\n')?;
-    source.push(b'A')?;
-    longer.truncate(65_535);
-    longer.push(b'A')?;
-    gives(
-        &rt,
-        alloc,
-        source.as_slice(),
-        longer.as_slice(),
-        Some((Number::E205, 2)),
-    )
+    assert!(rt; gives_behind(alloc, &declared, source, &wanted, None)?);
+    Ok(())
 }
