@@ -61,22 +61,6 @@ fn run_of(
     Ok(board.run(&schedule, sink))
 }
 
-/// Fails unless the ROM writes this text and ends so.
-pub(crate) fn runs(
-    rt: &impl Abort,
-    alloc: Global,
-    rom: &[u8],
-    schedule: &[u8],
-    end: End,
-    text: &[u8],
-) -> Result<(), Fail> {
-    let mut expect = Expect::new(rt);
-    let mut sink = CutSink::new(alloc, 300_000, 4096)?;
-    expect.same(run_of(alloc, rom, schedule, &mut sink)?, Ok(end));
-    expect.same(sink.bytes(), text);
-    Ok(())
-}
-
 /// The turn with these events, after this number of turns without any.
 fn turn_of(alloc: Global, rom: &[u8], before: u32, events: &[Event]) -> Result<Turn, Fail> {
     let mut board = Board::new(alloc, rom, PowerOn::filled(alloc, 0)?)?;

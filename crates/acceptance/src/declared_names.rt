@@ -1,13 +1,13 @@
 //! Small texts: what they declare.
 
-use crate::sources::{names_of, seen};
+use crate::expect::each;
+use crate::sources::{names_of, seen, then};
 use plm_decl::{
     Datum, Field, Form, Names, Object, Placement, Procedure, Region, ScalarType, ScreenName,
     Variable,
 };
 use std::alloc::Global;
 use std::process::Abort;
-use std::test::Fail;
 use word86::{Fault, Page};
 
 const BYTE: Form = Form::Scalar(ScalarType::Byte);
@@ -23,19 +23,6 @@ type WantedVariable = (Form, Option<u32>, u64, Region);
 
 /// An object's path, size and initial values.
 type WantedObject = (&'static [u8], u64, &'static [Datum]);
-
-/// Whether the objects in RAM are these: each has a path and a number of bytes.
-fn has_objects(names: &Names, wanted: &[(&[u8], u64)]) -> bool {
-    if names.objects.len() != wanted.len() {
-        return false;
-    }
-    for (object, (path, size)) in names.objects.iter().zip(wanted) {
-        if object.path.as_slice() != *path || object.size != *size {
-            return false;
-        }
-    }
-    true
-}
 
 fn is_variable(variable: &Variable, wanted: &WantedVariable) -> bool {
     let (form, dimension, stride, region) = *wanted;
@@ -73,7 +60,7 @@ fn are_objects(objects: &[Object], wanted: &[WantedObject]) -> bool {
 }
 
 /// What texts declare, worked by hand.
-static DECLARED: [(&[u8], &[WantedVariable], &[WantedObject]); 12] = [
+const DECLARED: &[(&[u8], &[WantedVariable], &[WantedObject])] = &[
     (
         b"M: DO; DECLARE V (*) INTEGER INITIAL (-32768, 32767, -1, -0); ; END M;",
         &[(INTEGER, Some(4), 2, Region::Ram(0, 0))],
@@ -231,19 +218,21 @@ static DECLARED: [(&[u8], &[WantedVariable], &[WantedObject]); 12] = [
     ),
 ];
 
+/// Whether this is so of what the modules declare.
+fn holds_of<F: FnOnce(&Names) -> bool>(alloc: Global, texts: &[&[u8]], look: F) -> bool
+    requires { F.IsAlwaysCallable look }
+{
+    seen(names_of(alloc, texts), look) == Ok(true)
+}
+
 #[test]
-fn contents_of_declarations(rt: HostRuntime) -> Result<(), Fail> {
+fn contents_of_declarations(rt: HostRuntime) {
     let alloc = rt.alloc();
-    for (text, variables, objects) in &DECLARED {
-        let same = seen(names_of(alloc, &[*text]), |names| {
-            (
-                are_variables(&names.variables, variables),
-                are_objects(&names.objects, objects),
-            )
-        })?;
-        assert_eq!(rt; same, (true, true), "variables and objects in {text:?}");
-    }
-    Ok(())
+    each(&rt, DECLARED, |(text, variables, objects)| {
+        holds_of(alloc, &[*text], |names| {
+            are_variables(&names.variables, variables) && are_objects(&names.objects, objects)
+        })
+    });
 }
 
 /// A name's size, its page and its offset there, and how many objects stand before it.
@@ -260,27 +249,6 @@ fn shows_e_and_f(names: &Names, page: Page) -> bool {
         return false;
     };
     is_on_screen(first, b"M.E", (6, page, 16, 1)) && is_on_screen(second, b"M.F", (6, page, 22, 1))
-}
-
-#[test]
-fn names_on_the_screen(rt: HostRuntime) -> Result<(), Fail> {
-    const ROWS: &[(&[u8], Page)] = &[
-        (
-            b"M: DO; DECLARE G BYTE DATA (9), (E, F) (3) WORD AT (0B8010H); ; END M;",
-            Page::Colour,
-        ),
-        (
-            b"M: DO; DECLARE G BYTE DATA (9), (E, F) (3) WORD AT (0B0010H); ; END M;",
-            Page::Monochrome,
-        ),
-    ];
-    for (text, page) in ROWS {
-        let shown = seen(names_of(rt.alloc(), &[*text]), |names| {
-            shows_e_and_f(names, *page)
-        })?;
-        assert!(rt; shown, "names on a page by {text:?}");
-    }
-    Ok(())
 }
 
 /// A member's name, dimension and offset.
@@ -316,14 +284,6 @@ fn has_four_members(names: &Names) -> bool {
     (structure.size, structure.scalars) == (11, 6) && are_fields(&structure.fields, FIELDS)
 }
 
-#[test]
-fn members_without_gaps(rt: HostRuntime) -> Result<(), Fail> {
-    let text = b"M: DO; DECLARE S STRUCTURE (X BYTE, (y, Z$) (2) WORD, Q POINTER); ; END M;";
-    let same = seen(names_of(rt.alloc(), &[text]), has_four_members)?;
-    assert!(rt; same);
-    Ok(())
-}
-
 /// Whether the procedures are a PUBLIC one and the EXTERNAL one that it is joined to, each with its parameter.
 fn are_joined(procedures: &[Procedure]) -> bool {
     let [public, external] = procedures else {
@@ -348,31 +308,14 @@ const JOINED: &[WantedVariable] = &[
 ];
 
 /// Whether the variables are those, the procedures are joined, and main is that of the second module.
-fn joins(names: &Names) -> (bool, bool, usize) {
-    (
-        are_variables(&names.variables, JOINED),
-        are_joined(&names.procedures),
-        names.main.module,
-    )
+fn joins(names: &Names) -> bool {
+    are_variables(&names.variables, JOINED)
+        && are_joined(&names.procedures)
+        && names.main.module == 1
 }
 
-#[test]
-fn regions_and_entries_joined(rt: HostRuntime) -> Result<(), Fail> {
-    let first =
-        b"A: DO; DECLARE (L, X) WORD PUBLIC, W (3) BYTE EXTERNAL; P: PROCEDURE (N) PUBLIC; DECLARE N BYTE; END P; END A;";
-    let second =
-        b"B: DO; DECLARE X WORD EXTERNAL, W (3) BYTE PUBLIC; P: PROCEDURE (K) EXTERNAL; DECLARE K BYTE; END P; CALL P(1); END B;";
-    let third = b"C: DO; DECLARE W (3) BYTE EXTERNAL, X WORD EXTERNAL; END C;";
-    let joined = seen(names_of(rt.alloc(), &[first, second, third]), joins)?;
-    assert_eq!(rt;
-        joined,
-        (true, true, 1),
-        "variables, procedures and main's module"
-    );
-    Ok(())
-}
-
-static OBJECTS: [(&[u8], u64); 11] = [
+/// The objects in RAM, in the order of their declarations: each has a path and a number of bytes.
+const OBJECTS: &[(&[u8], u64)] = &[
     (b"M.W", 2),
     (b"M.P", 2),
     (b"M.#S1", 2),
@@ -386,18 +329,60 @@ static OBJECTS: [(&[u8], u64); 11] = [
     (b"M.#2.E.J", 1),
 ];
 
-#[test]
-fn objects_in_order_of_declaration(rt: HostRuntime) -> Result<(), Fail> {
-    let alloc = rt.alloc();
-    let text =
-        b"M: DO; DECLARE W WORD, S BYTE AT (0B8000H), P POINTER INITIAL (@('AB')), (A, b$1) (3) BYTE;
+/// Whether the objects are those.
+fn has_objects(names: &Names) -> bool {
+    if names.objects.len() != OBJECTS.len() {
+        return false;
+    }
+    for (object, (path, size)) in names.objects.iter().zip(OBJECTS) {
+        if object.path.as_slice() != *path || object.size != *size {
+            return false;
+        }
+    }
+    true
+}
+
+const ON_COLOUR: &[u8] = b"M: DO; DECLARE G BYTE DATA (9), (E, F) (3) WORD AT (0B8010H); ; END M;";
+
+const ON_MONOCHROME: &[u8] =
+    b"M: DO; DECLARE G BYTE DATA (9), (E, F) (3) WORD AT (0B0010H); ; END M;";
+
+const FOUR_MEMBERS: &[u8] =
+    b"M: DO; DECLARE S STRUCTURE (X BYTE, (y, Z$) (2) WORD, Q POINTER); ; END M;";
+
+const FIRST: &[u8] =
+    b"A: DO; DECLARE (L, X) WORD PUBLIC, W (3) BYTE EXTERNAL; P: PROCEDURE (N) PUBLIC; DECLARE N BYTE; END P; END A;";
+
+const SECOND: &[u8] =
+    b"B: DO; DECLARE X WORD EXTERNAL, W (3) BYTE PUBLIC; P: PROCEDURE (K) EXTERNAL; DECLARE K BYTE; END P; CALL P(1); END B;";
+
+const THIRD: &[u8] = b"C: DO; DECLARE W (3) BYTE EXTERNAL, X WORD EXTERNAL; END C;";
+
+const BLOCKS: &[u8] =
+    b"M: DO; DECLARE W WORD, S BYTE AT (0B8000H), P POINTER INITIAL (@('AB')), (A, b$1) (3) BYTE;
         Q: PROCEDURE (X, Y); DECLARE Y BYTE, X WORD; DO; DECLARE Z BYTE; END; L: DO; DECLARE V WORD; V = .(1); END; END Q;
         E: PROCEDURE (I) EXTERNAL; DECLARE I BYTE; END E; DO; E: PROCEDURE (J) PUBLIC; DECLARE J BYTE; END E; END; END M;";
-    let same = seen(names_of(alloc, &[text]), |names| {
-        has_objects(names, &OBJECTS)
-    })?;
-    assert!(rt; same);
-    Ok(())
+
+#[test]
+fn names_of_programs(rt: HostRuntime) {
+    let alloc = rt.alloc();
+    assert!(rt;
+        holds_of(
+            alloc,
+            &[ON_COLOUR],
+            |names| shows_e_and_f(names, Page::Colour)
+        )
+    );
+    assert!(rt;
+        holds_of(
+            alloc,
+            &[ON_MONOCHROME],
+            |names| shows_e_and_f(names, Page::Monochrome)
+        )
+    );
+    assert!(rt; holds_of(alloc, &[FOUR_MEMBERS], has_four_members));
+    assert!(rt; holds_of(alloc, &[FIRST, SECOND, THIRD], joins));
+    assert!(rt; holds_of(alloc, &[BLOCKS], has_objects));
 }
 
 /// Offsets of two words, and whether they may lie there.
@@ -416,21 +401,11 @@ fn placed(alloc: Global, names: &Names, offsets: &[u16]) -> Result<(bool, bool),
     Ok((placement.fits(names), placement.offsets() == offsets))
 }
 
-/// The first row whose placement does otherwise.
-fn first_misplaced(alloc: Global, names: &Names) -> Result<Option<usize>, Fault> {
-    for (row, (offsets, wanted)) in OFFSETS.iter().enumerate() {
-        if placed(alloc, names, offsets)? != (*wanted, true) {
-            return Ok(Some(row));
-        }
-    }
-    Ok(None)
-}
-
 #[test]
-fn placements(rt: HostRuntime) -> Result<(), Fail> {
+fn placements(rt: HostRuntime) {
     let alloc = rt.alloc();
-    let words = names_of(alloc, &[b"M: DO; DECLARE (A, B) WORD; ; END M;"]);
-    let misplaced = seen(words, |names| first_misplaced(alloc, names))??;
-    assert_eq!(rt; misplaced, None);
-    Ok(())
+    each(&rt, OFFSETS, |(offsets, fits)| {
+        let words = names_of(alloc, &[b"M: DO; DECLARE (A, B) WORD; ; END M;"]);
+        then(words, |names| placed(alloc, names, offsets)) == Ok((*fits, true))
+    });
 }

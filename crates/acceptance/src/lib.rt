@@ -5,8 +5,6 @@
 #[cfg(test)]
 mod board_runs;
 #[cfg(test)]
-mod building;
-#[cfg(test)]
 mod codec;
 #[cfg(test)]
 mod declared_names;

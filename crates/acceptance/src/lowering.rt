@@ -1,6 +1,6 @@
 //! Runs of the code that programs are lowered to, step by step over a store, with accesses worked by hand from the language's rules.
 
-use crate::expect::Expect;
+use crate::expect::each;
 use crate::sources::{code_of, program_of, seen, then};
 use icode::{Code, High, Instruction, LowByte, Machine, RamObjects, Routine, Step, Stop};
 use lower::lower;
@@ -8,7 +8,6 @@ use plm_decl::{Datum, Names};
 use plm_type::Program;
 use std::alloc::Global;
 use std::process::Abort;
-use std::test::Fail;
 use word86::{Access, Fault, Page, Place, Width};
 
 /// What is stored, byte by byte, the newest last.
@@ -392,17 +391,24 @@ const ROWS: &[(&[&[u8]], &[u16], u32, &[Access], End)] = &[
     ),
 ];
 
-/// Code makes these accesses, in this order.
+/// Whether the modules' code makes these accesses, in this order, and ends so.
+fn makes(
+    alloc: Global,
+    texts: &[&[u8]],
+    offsets: &[u16],
+    halts: u32,
+    wanted: (&[Access], End),
+) -> Result<bool, Fault> {
+    let (found, end) = accesses_in(alloc, texts, offsets, halts)?;
+    Ok((found.as_slice(), end) == wanted)
+}
+
 #[test]
-fn accesses_are_in_order(rt: HostRuntime) -> Result<(), Fail> {
-    for (texts, offsets, halts, wanted, end) in ROWS {
-        let (found, ended) = accesses_in(rt.alloc(), texts, offsets, *halts)?;
-        assert!(rt;
-            found.as_slice() == *wanted && ended == *end,
-            "in {texts:?}"
-        );
-    }
-    Ok(())
+fn accesses_are_in_order(rt: HostRuntime) {
+    let alloc = rt.alloc();
+    each(&rt, ROWS, |(texts, offsets, halts, wanted, end)| {
+        makes(alloc, texts, offsets, *halts, (*wanted, *end)) == Ok(true)
+    });
 }
 
 /// The first byte of an object is read, or gets a value.
@@ -420,8 +426,7 @@ fn sends(port: u16, value: u16) -> Access {
 
 /// The index is compared, sent, and read for the sum; the sum is stored, and wraps at last.
 #[test]
-fn rounds_wrap(rt: HostRuntime) -> Result<(), Fail> {
-    let mut expect = Expect::new(&rt);
+fn rounds_wrap(rt: HostRuntime) -> Result<(), Fault> {
     let alloc = rt.alloc();
     let text =
         b"M: DO; DECLARE I BYTE; DO I = 250 TO 255; OUTPUT(300H) = I; END; OUTPUT(301H) = I; END M;";
@@ -437,16 +442,14 @@ fn rounds_wrap(rt: HostRuntime) -> Result<(), Fail> {
         wanted.extend_from_slice(&round)?;
     }
     wanted.extend_from_slice(&[reads(0), sends(0x301, 0)])?;
-    let (found, end) = accesses_in(alloc, &[text], &[2], 1)?;
-    expect.same(found.as_slice(), wanted.as_slice());
-    expect.holds(end == End::Halted);
+    let made = makes(alloc, &[text], &[2], 1, (wanted.as_slice(), End::Halted));
+    assert!(rt; made == Ok(true));
     Ok(())
 }
 
 /// In each round the base is read, and then what it leads to: A in each one, as no interrupt comes.
 #[test]
-fn rounds_read_the_base(rt: HostRuntime) -> Result<(), Fail> {
-    let mut expect = Expect::new(&rt);
+fn rounds_read_the_base(rt: HostRuntime) -> Result<(), Fault> {
     let alloc = rt.alloc();
     let text =
         b"M: DO; DECLARE P WORD, A BYTE INITIAL (1), C BYTE INITIAL (2), B BASED P BYTE, I BYTE; H: PROCEDURE INTERRUPT 8; P = .C; END H; OUTPUT(43H) = 14H; OUTPUT(40H) = 2; HALT; P = .A; DO I = 1 TO 200; OUTPUT(300H) = B; END; END M;";
@@ -470,19 +473,24 @@ fn rounds_read_the_base(rt: HostRuntime) -> Result<(), Fail> {
         wanted.extend_from_slice(&accesses)?;
     }
     wanted.push(reads(3))?;
-    let (found, end) = accesses_in(alloc, &[text], &[2, 4, 5, 6], 2)?;
-    expect.same(found.as_slice(), wanted.as_slice());
-    expect.holds(end == End::Halted);
+    let offsets = [2, 4, 5, 6];
+    let made = makes(
+        alloc,
+        &[text],
+        &offsets,
+        2,
+        (wanted.as_slice(), End::Halted),
+    );
+    assert!(rt; made == Ok(true));
     Ok(())
 }
 
-/// How many sections the code has, main's module, and the procedures' modules.
-fn sections_of(alloc: Global, code: &Code) -> Result<(usize, usize, Vec<usize>), Fault> {
-    let mut modules = Vec::new(alloc);
-    for procedure in &code.procedures {
-        modules.push(procedure.module)?;
-    }
-    Ok((code.sections, code.main_module, modules))
+/// Whether the code has two sections, main in this one, and a procedure in each.
+fn has_sections(code: &Code, main: usize) -> bool {
+    let [first, second] = code.procedures.as_slice() else {
+        return false;
+    };
+    [code.sections, code.main_module, first.module, second.module] == [2, main, 0, 1]
 }
 
 const CALLS: &[u8] =
@@ -492,48 +500,42 @@ const PUTS_NINE: &[u8] = b"B: DO; DECLARE X BYTE PUBLIC; P: PROCEDURE PUBLIC; X 
 
 /// Each module has a section, and one procedure of these. Main stands in the last section where its module is the last.
 #[test]
-fn modules_have_sections(rt: HostRuntime) -> Result<(), Fail> {
+fn modules_have_sections(rt: HostRuntime) {
     const TURNS: &[([&[u8]; 2], usize)] = &[([CALLS, PUTS_NINE], 0), ([PUTS_NINE, CALLS], 1)];
     let alloc = rt.alloc();
-    for (texts, wanted) in TURNS {
-        let (sections, main, modules) = then(code_of(alloc, texts), |code| {
-            sections_of(alloc, code)
-        })?;
-        assert!(rt; (sections, main) == (2, *wanted), "in {texts:?}");
-        assert!(rt; modules.as_slice() == [0, 1].as_slice(), "in {texts:?}");
-    }
-    Ok(())
+    each(&rt, TURNS, |(texts, main)| {
+        seen(code_of(alloc, texts), |code| has_sections(code, *main)) == Ok(true)
+    });
 }
 
-/// Two procedures, of which the second serves vector 9.
-fn is_serving(rt: &impl Abort, code: &Code) {
-    // A procedure that gives no value ends by Leave alone, one that serves a vector by Finish.
-    const CALLED: &[Instruction] = &[
-        Instruction::Low(LowByte::Constant(0), High::Kept),
-        Instruction::SendTo(Width::Byte, 0x61),
-        Instruction::Leave,
-    ];
-    const SERVING: &[Instruction] = &[
-        Instruction::Low(LowByte::ReceiveFrom(0x60), High::Kept),
-        Instruction::SendTo(Width::Byte, 0x300),
-        Instruction::Low(LowByte::Constant(0x80), High::Kept),
-        Instruction::SendTo(Width::Byte, 0x61),
-        Instruction::Invoke(0),
-        Instruction::Finish,
-    ];
-    let mut expect = Expect::new(rt);
-    expect.holds(code.serving(9) == Routine::Procedure(1));
-    expect.holds(code.serving(8) == Routine::Unserved);
-    expect.holds(code.instructions(Routine::Procedure(0)) == CALLED);
-    expect.holds(code.instructions(Routine::Procedure(1)) == SERVING);
-    // The interrupt procedure calls the other one, which stands before it.
-    expect.same(code.order.as_slice(), [0, 1].as_slice());
+// A procedure that gives no value ends by Leave alone, one that serves a vector by Finish.
+const CALLED: &[Instruction] = &[
+    Instruction::Low(LowByte::Constant(0), High::Kept),
+    Instruction::SendTo(Width::Byte, 0x61),
+    Instruction::Leave,
+];
+
+const SERVING: &[Instruction] = &[
+    Instruction::Low(LowByte::ReceiveFrom(0x60), High::Kept),
+    Instruction::SendTo(Width::Byte, 0x300),
+    Instruction::Low(LowByte::Constant(0x80), High::Kept),
+    Instruction::SendTo(Width::Byte, 0x61),
+    Instruction::Invoke(0),
+    Instruction::Finish,
+];
+
+/// Whether there are those two procedures, of which the second serves vector 9. It calls the other one, which stands before it.
+fn is_serving(code: &Code) -> bool {
+    code.serving(9) == Routine::Procedure(1)
+        && code.serving(8) == Routine::Unserved
+        && code.instructions(Routine::Procedure(0)) == CALLED
+        && code.instructions(Routine::Procedure(1)) == SERVING
+        && code.order.as_slice() == [0, 1].as_slice()
 }
 
 #[test]
-fn interrupts_are_served(rt: HostRuntime) -> Result<(), Fail> {
+fn interrupts_are_served(rt: HostRuntime) {
     let text =
         b"M: DO; Q: PROCEDURE; OUTPUT(61H) = 0; END Q; K: PROCEDURE INTERRUPT 9; OUTPUT(300H) = INPUT(60H); OUTPUT(61H) = 80H; CALL Q; END K; ENABLE; DO WHILE 1; END; END M;";
-    seen(code_of(rt.alloc(), &[text]), |code| is_serving(&rt, code))?;
-    Ok(())
+    assert!(rt; seen(code_of(rt.alloc(), &[text]), is_serving) == Ok(true));
 }

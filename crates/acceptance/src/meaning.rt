@@ -1,12 +1,12 @@
 //! Steps of small programs, with traces written by hand from the language's rules.
 
-use crate::sources::{program_of, seen, then};
+use crate::expect::each;
+use crate::sources::{program_of, then};
 use plm_decl::Placement;
 use plm_meaning::{Choice, Meaning, Step, Stop};
 use plm_type::{Line, Program};
 use std::alloc::Global;
 use std::process::Abort;
-use std::test::Fail;
 use word86::{Event, Fault, Label, Number, PowerOn};
 
 const HERE: Line = Line { module: 0, line: 1 };
@@ -91,17 +91,25 @@ const PLACED: &[(&[u8], &[u16], &[Label], Stop)] = &[
     ),
 ];
 
+/// Whether the run of a text has these labels, and stops so.
+fn runs_so(
+    alloc: Global,
+    text: &[u8],
+    offsets: &[u16],
+    wanted: (&[Label], Stop),
+) -> Result<bool, Fault> {
+    let (labels, stopped) = run(alloc, text, offsets)?;
+    let (shown, stop) = wanted;
+    Ok(labels.as_slice() == shown && stopped == Some(stop))
+}
+
 /// Main takes its steps up to its HALT or a Bad one, wherever the objects lie.
 #[test]
-fn objects_lie_anywhere(rt: HostRuntime) -> Result<(), Fail> {
-    for (text, offsets, labels, stop) in PLACED {
-        let (shown, stopped) = run(rt.alloc(), text, offsets)?;
-        assert!(rt;
-            shown.as_slice() == *labels && stopped == Some(*stop),
-            "in {text:?}"
-        );
-    }
-    Ok(())
+fn objects_lie_anywhere(rt: HostRuntime) {
+    let alloc = rt.alloc();
+    each(&rt, PLACED, |(text, offsets, labels, stop)| {
+        runs_so(alloc, text, offsets, (*labels, *stop)) == Ok(true)
+    });
 }
 
 /// A choice, and what it does.
@@ -111,24 +119,26 @@ const REFUSED: Result<Step, Stop> = Err(Stop::NotAllowed);
 
 const SILENT: Result<Step, Stop> = Ok(Step { label: None });
 
-/// Fails unless the choices, one after the other, do this, and it is told where an interrupt can be taken.
-fn tries(rt: &impl Abort, meaning: &mut Meaning<'_>, rows: &[Try]) {
-    for (row, (choice, wanted)) in rows.iter().enumerate() {
-        if *choice == Choice::Enter {
-            assert_eq!(rt; meaning.is_interrupted(), wanted.is_ok(), "choice {row}");
+/// Whether the choices, one after the other, do this, and it is told where an interrupt can be taken.
+fn does(meaning: &mut Meaning<'_>, rows: &[Try]) -> bool {
+    for (choice, wanted) in rows {
+        if *choice == Choice::Enter && meaning.is_interrupted() != wanted.is_ok() {
+            return false;
         }
-        assert_eq!(rt; meaning.step(*choice), *wanted, "choice {row}");
+        if meaning.step(*choice) != *wanted {
+            return false;
+        }
     }
+    true
 }
 
 /// The same for a program's first state, after so many silent steps and an event.
-fn tries_of(
-    rt: &impl Abort,
+fn does_then(
     alloc: Global,
     program: &Program,
     set_up: (u32, Option<Event>),
     rows: &[Try],
-) -> Result<(), Fail> {
+) -> Result<bool, Fault> {
     let placement = Placement::of(Vec::new(alloc));
     let mut meaning = opened(alloc, program, &placement, 0)?;
     let (steps, event) = set_up;
@@ -138,8 +148,7 @@ fn tries_of(
     if let Some(event) = event {
         let _ = meaning.step(Choice::Event(event));
     }
-    tries(rt, &mut meaning, rows);
-    Ok(())
+    Ok(does(&mut meaning, rows))
 }
 
 /// A program whose interrupts from the timer are set up by eighteen steps, and come with automatic end; then the interrupt is asked for.
@@ -242,12 +251,11 @@ const CHOICES: &[(&[u8], (u32, Option<Event>), &[Try])] = &[
 ];
 
 #[test]
-fn chooses_what_is_allowed(rt: HostRuntime) -> Result<(), Fail> {
+fn chooses_what_is_allowed(rt: HostRuntime) {
     let alloc = rt.alloc();
-    for (text, set_up, rows) in CHOICES {
-        seen(program_of(alloc, &[*text]), |program| {
-            tries_of(&rt, alloc, program, *set_up, rows)
-        })??;
-    }
-    Ok(())
+    each(&rt, CHOICES, |(text, set_up, rows)| {
+        then(program_of(alloc, &[*text]), |program| {
+            does_then(alloc, program, *set_up, rows)
+        }) == Ok(true)
+    });
 }

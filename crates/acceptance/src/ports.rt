@@ -1,10 +1,10 @@
 //! Rows from the data sheets, worked by hand.
 
 use crate::digits::{byte, number};
+use crate::expect::each;
 use ppi_kbd::{Call, Ports, Reply, replay};
-use std::alloc::Global;
+use std::alloc::{AllocError, Global};
 use std::process::Abort;
-use std::test::Fail;
 use word86::Event;
 
 /// A call by its word: `w20:13` is a byte that is written to port 20H and `r60` what is read at port 60H, in capitals the same of a word,
@@ -28,7 +28,7 @@ fn call_of(word: &[u8]) -> Option<Call> {
     }
 }
 
-fn calls_of(alloc: Global, words: &str) -> Result<Vec<Call>, Fail> {
+fn calls_of(alloc: Global, words: &str) -> Result<Vec<Call>, AllocError> {
     let mut calls = Vec::new(alloc);
     for word in words.as_bytes().split(|character| *character == b' ') {
         if let Some(call) = call_of(word) {
@@ -39,7 +39,7 @@ fn calls_of(alloc: Global, words: &str) -> Result<Vec<Call>, Fail> {
 }
 
 /// What the calls answer of chips at reset, in words: a byte or a vector by two digits, a word by four, INT by `up` or `no`.
-fn answers_of(alloc: Global, calls: &[Call]) -> Result<String, Fail> {
+fn answers_of(alloc: Global, calls: &[Call]) -> Result<String, AllocError> {
     let mut replies = vec![in alloc; Reply::Nothing; calls.len()]?;
     replay(calls, &mut replies);
     let mut answers = String::new(alloc);
@@ -115,12 +115,17 @@ const ROWS: &[(&str, &str, &str)] = &[
     ),
 ];
 
+/// Whether the calls have these answers.
+fn is_answered(alloc: Global, words: &str, answers: &str) -> Result<bool, AllocError> {
+    let calls = calls_of(alloc, words)?;
+    let found = answers_of(alloc, calls.as_slice())?;
+    Ok(found.as_str() == answers)
+}
+
 #[test]
-fn calls_are_answered(rt: HostRuntime) -> Result<(), Fail> {
-    for (words, answers, why) in ROWS {
-        let calls = calls_of(rt.alloc(), words)?;
-        let found = answers_of(rt.alloc(), calls.as_slice())?;
-        assert_eq!(rt; found.as_str(), *answers, "{words}: {why}");
-    }
-    Ok(())
+fn calls_are_answered(rt: HostRuntime) {
+    let alloc = rt.alloc();
+    each(&rt, ROWS, |(words, answers, _)| {
+        matches!(is_answered(alloc, words, answers), Ok(true))
+    });
 }

@@ -1,27 +1,22 @@
-//! The parts of a program, and of its sections: the bytes are from the manual's table.
+//! The parts of a program's sections, and what instructions change; the bytes of code are rows of tests/bytes.txt.
 
-use crate::expect::Expect;
-use crate::sources::code_of;
-use icode::{Code, Instruction, is_direct};
-use select::{Entry, Part, select, select_section};
+use crate::sources::{code_of, seen, then};
+use icode::{Code, Instruction, Registers, is_direct};
+use select::{Part, select, select_section};
 use std::alloc::Global;
-use std::test::Fail;
+use std::process::Abort;
 use word86::{BinaryOperation, Fault, Width};
 
-/// Two modules: in the first one two interrupt procedures, in the second one main.
-fn two_modules(alloc: Global) -> Result<Code, Fault> {
-    let procedures =
-        b"A: DO; H: PROCEDURE INTERRUPT 8; OUTPUT(0E0H) = 5; END H; K: PROCEDURE INTERRUPT 9; END K; END A;";
-    let main = b"B: DO; ; END B;";
-    code_of(alloc, &[procedures, main])
-}
+const CALLS: &[u8] =
+    b"A: DO; DECLARE X BYTE EXTERNAL; P: PROCEDURE EXTERNAL; END P; CALL P; OUTPUT(300H) = X; END A;";
 
-fn is_part(part: &Part, entry: Entry, bytes: &[u8]) -> bool {
-    part.entry == entry && part.bytes.as_slice() == bytes && part.fixups.is_empty()
-}
+const PUTS_NINE: &[u8] = b"B: DO; DECLARE X BYTE PUBLIC; P: PROCEDURE PUBLIC; X = 9; END P; END B;";
+
+const PUTS_EIGHT: &[u8] =
+    b"B: DO; DECLARE X BYTE PUBLIC; P: PROCEDURE PUBLIC; X = 8; END P; END B;";
 
 /// The parts of a section; none past the last.
-pub(crate) fn section_of(alloc: Global, code: &Code, section: usize) -> Result<Vec<Part>, Fault> {
+fn section_of(alloc: Global, code: &Code, section: usize) -> Result<Vec<Part>, Fault> {
     if section < code.sections {
         select_section(alloc, code, section)
     } else {
@@ -29,105 +24,101 @@ pub(crate) fn section_of(alloc: Global, code: &Code, section: usize) -> Result<V
     }
 }
 
-/// The parts of the sections are those of the program, in its order; the part for vectors without a procedure is last. A procedure that
-/// serves a vector saves AX where it changes that, and nothing else. Main is used up at once, and halts.
-#[test]
-fn sections_are_in_order(rt: HostRuntime) -> Result<(), Fail> {
-    let alloc = rt.alloc();
-    let code = two_modules(alloc)?;
-    // PUSH AX; MOV AL,5; OUT 0E0H,AL; POP AX; IRET
-    let handler = [0x50, 0xB0, 5, 0xE6, 0xE0, 0x58, 0xCF];
-    // STI; HLT; JMP back
-    let main = [0xFB, 0xF4, 0xEB, 0xFC];
-    let parts = select(alloc, &code)?;
-    assert_eq!(rt; parts.len(), 4);
-    assert!(rt; is_part(&parts[0], Entry::Vector(8), &handler));
-    assert!(rt; is_part(&parts[1], Entry::Vector(9), &[0xCF]));
-    assert!(rt; is_part(&parts[2], Entry::Main, &main));
-    assert!(rt; is_part(&parts[3], Entry::Unserved, &[0xCF]));
-    let first = section_of(alloc, &code, 0)?;
-    assert_eq!(rt; first.len(), 2);
-    assert!(rt; is_part(&first[0], Entry::Vector(8), &handler));
-    assert!(rt; is_part(&first[1], Entry::Vector(9), &[0xCF]));
-    let second = section_of(alloc, &code, 1)?;
-    assert_eq!(rt; second.len(), 1);
-    assert!(rt; is_part(&second[0], Entry::Main, &main));
-    Ok(())
+/// The parts of a section of the program with these modules.
+fn parts_of(alloc: Global, texts: &[&[u8]], section: usize) -> Result<Vec<Part>, Fault> {
+    then(code_of(alloc, texts), |code| {
+        section_of(alloc, code, section)
+    })
 }
 
-/// Loops whose body is empty, and main's bytes, which halt behind the loop. An index has offset 0 before the parts are placed.
-const ROUNDS: &[(&[u8], &[u8])] = &[
-    // MOV AL,1; MOV [I],AL. A round: CMP BYTE [I],3; JA. Its end: MOV AL,[I]; INC AL; MOV [I],AL; JNZ.
-    (
-        b"M: DO; DECLARE I BYTE; DO I = 1 TO 3; END; END M;",
-        &[
-            0xB0, 1, 0xA2, 0, 0, 0x80, 0x3E, 0, 0, 3, 0x77, 10, 0xA0, 0, 0, 0xFE, 0xC0, 0xA2, 0, 0,
-            0x75, 0xEF, 0xFB, 0xF4, 0xEB, 0xFC,
-        ],
-    ),
-    // ADD AL,2 leaves a carry where the sum is above 255: JNC.
-    (
-        b"M: DO; DECLARE I BYTE; DO I = 1 TO 3 BY 2; END; END M;",
-        &[
-            0xB0, 1, 0xA2, 0, 0, 0x80, 0x3E, 0, 0, 3, 0x77, 10, 0xA0, 0, 0, 4, 2, 0xA2, 0, 0, 0x73,
-            0xEF, 0xFB, 0xF4, 0xEB, 0xFC,
-        ],
-    ),
-    // By 300 no sum fits a byte: ADD AL,44, and no jump.
-    (
-        b"M: DO; DECLARE I BYTE; DO I = 1 TO 3 BY 300; END; END M;",
-        &[
-            0xB0, 1, 0xA2, 0, 0, 0x80, 0x3E, 0, 0, 3, 0x77, 8, 0xA0, 0, 0, 4, 44, 0xA2, 0, 0, 0xFB,
-            0xF4, 0xEB, 0xFC,
-        ],
-    ),
-    // CMP WORD [I],3 with a byte for the 3; MOV AX,[I]; INC AX; MOV [I],AX; JNZ.
-    (
-        b"M: DO; DECLARE I WORD; DO I = 1 TO 3; END; END M;",
-        &[
-            0xB8, 1, 0, 0xA3, 0, 0, 0x83, 0x3E, 0, 0, 3, 0x77, 9, 0xA1, 0, 0, 0x40, 0xA3, 0, 0,
-            0x75, 0xF0, 0xFB, 0xF4, 0xEB, 0xFC,
-        ],
-    ),
-    // MOV AX,[I]; ADD AX,300; MOV [I],AX; JNC.
-    (
-        b"M: DO; DECLARE I WORD; DO I = 1 TO 3 BY 300; END; END M;",
-        &[
-            0xB8, 1, 0, 0xA3, 0, 0, 0x83, 0x3E, 0, 0, 3, 0x77, 11, 0xA1, 0, 0, 5, 44, 1, 0xA3, 0,
-            0, 0x73, 0xEE, 0xFB, 0xF4, 0xEB, 0xFC,
-        ],
-    ),
-];
-
-fn is_main(part: &Part, bytes: &[u8]) -> bool {
-    part.entry == Entry::Main && part.bytes.as_slice() == bytes
+fn is_same(one: &Part, other: &Part) -> bool {
+    one.entry == other.entry
+        && one.bytes.as_slice() == other.bytes.as_slice()
+        && one.fixups.as_slice() == other.fixups.as_slice()
 }
 
-/// The end of a round asks for the flags of its sum, which MOV leaves. INC leaves the carry as it was, and INC AX says nothing of AL.
+fn are_same(some: &[Part], others: &[Part]) -> bool {
+    some.len() == others.len()
+        && some
+            .iter()
+            .zip(others)
+            .all(|(one, other)| is_same(one, other))
+}
+
+/// How many parts a section has, and whether they are the same where the second module's body is another.
+fn kept(alloc: Global, section: usize) -> Result<(usize, bool), Fault> {
+    then(parts_of(alloc, &[CALLS, PUTS_NINE], section), |nine| {
+        seen(parts_of(alloc, &[CALLS, PUTS_EIGHT], section), |eight| {
+            (nine.len(), are_same(nine, eight))
+        })
+    })
+}
+
+/// The parts of a module stay as they are where a body in another one is changed. The EXTERNAL procedure has a part in the module that
+/// names it.
 #[test]
-fn rounds_end_by_flags(rt: HostRuntime) -> Result<(), Fail> {
+fn sections_stand_alone(rt: HostRuntime) {
     let alloc = rt.alloc();
-    for (text, bytes) in ROUNDS {
-        let code = code_of(alloc, &[*text])?;
-        let parts = select(alloc, &code)?;
-        assert_eq!(rt; parts.len(), 2);
-        assert!(rt; is_main(&parts[0], bytes));
-    }
-    Ok(())
+    assert!(rt; kept(alloc, 0) == Ok((2, true)) && kept(alloc, 1) == Ok((1, false)));
+}
+
+/// The parts of the program from one number up to another.
+fn some_of(parts: &[Part], from: usize, to: usize) -> &[Part] {
+    parts.get(from..to).unwrap_or(&[])
+}
+
+/// Whether the program's parts are those of the first section, two, then that of the second, and one more.
+fn are_in_order(alloc: Global, code: &Code) -> Result<bool, Fault> {
+    then(select(alloc, code), |all| {
+        let first = seen(section_of(alloc, code, 0), |parts| {
+            are_same(parts, some_of(all, 0, 2))
+        })?;
+        let second = seen(section_of(alloc, code, 1), |parts| {
+            are_same(parts, some_of(all, 2, 3))
+        })?;
+        Ok(first && second && all.len() == 4)
+    })
+}
+
+/// The parts of the sections are those of the program, in its order; the part for vectors without a procedure is last.
+#[test]
+fn sections_are_in_order(rt: HostRuntime) {
+    let alloc = rt.alloc();
+    let texts: [&[u8]; 2] = [
+        b"A: DO; H: PROCEDURE INTERRUPT 8; OUTPUT(0E0H) = 5; END H; K: PROCEDURE INTERRUPT 9; END K; END A;",
+        b"B: DO; ; END B;",
+    ];
+    let ordered = then(code_of(alloc, &texts), |code| are_in_order(alloc, code));
+    assert!(rt; ordered == Ok(true));
 }
 
 /// An interrupt procedure saves DX where it divides with sign, as CWD writes it, and CX where a relation is a value, as its sign bit is
 /// turned.
 #[test]
 fn signed_operators_change_registers(rt: HostRuntime) {
-    let mut expect = Expect::new(&rt);
-    for operation in [BinaryOperation::DivideSigned, BinaryOperation::ModuloSigned] {
-        let changed = Instruction::BinaryConstant(operation, Width::Word, 3).changes();
-        expect.holds(changed.accumulator && changed.right && changed.high);
-        expect.holds(!changed.address && !changed.frame);
-        expect.holds(!is_direct(operation));
-    }
-    let relation = Instruction::Binary(BinaryOperation::LessSigned, Width::Word).changes();
-    expect.holds(relation.accumulator && relation.right);
-    expect.holds(!relation.high && !relation.address && !relation.frame);
+    const DIVISION: Registers = Registers {
+        accumulator: true,
+        right: true,
+        high: true,
+        address: false,
+        frame: false,
+    };
+    const RELATION: Registers = Registers {
+        accumulator: true,
+        right: true,
+        high: false,
+        address: false,
+        frame: false,
+    };
+    let divide = BinaryOperation::DivideSigned;
+    let modulo = BinaryOperation::ModuloSigned;
+    assert!(rt;
+        Instruction::BinaryConstant(divide, Width::Word, 3).changes() == DIVISION
+            && Instruction::BinaryConstant(modulo, Width::Word, 3).changes() == DIVISION
+    );
+    assert!(rt;
+        Instruction::Binary(BinaryOperation::LessSigned, Width::Word).changes() == RELATION
+            && !is_direct(divide)
+            && !is_direct(modulo)
+    );
 }

@@ -1,12 +1,13 @@
 //! Small texts: what they are typed as.
 
+use crate::expect::each;
 use crate::sources::{program_of, seen};
 use plm_type::{
     Anchor, Counting, Expression, Operation, Place, Program, Reference, Statement, Subscript,
     Target,
 };
+use std::alloc::Global;
 use std::process::Abort;
-use std::test::Fail;
 use word86::{BinaryOperation, Width};
 
 /// Main's only statement.
@@ -82,14 +83,6 @@ fn sends_sum(program: &Program) -> bool {
     is_plain(first, Width::Byte, Place::Ram(0, 0)) && are_of_sum(operations)
 }
 
-#[test]
-fn trees_show_types(rt: HostRuntime) -> Result<(), Fail> {
-    let sum: &[u8] = b"M: DO; DECLARE B BYTE, W WORD; OUTPUT(1) = B + B * 2 - W = 3; END M;";
-    let sends = seen(program_of(rt.alloc(), &[sum]), sends_sum)?;
-    assert!(rt; sends);
-    Ok(())
-}
-
 /// The width of the first operator in the chain that main's only statement stores.
 fn width_of_first(program: &Program) -> Option<Width> {
     let (_, _, value) = assignment(only(program)?)?;
@@ -98,7 +91,7 @@ fn width_of_first(program: &Program) -> Option<Width> {
 }
 
 #[test]
-fn trees_show_widths(rt: HostRuntime) -> Result<(), Fail> {
+fn trees_show_widths(rt: HostRuntime) {
     let alloc = rt.alloc();
     const ROWS: &[(&[u8], Option<Width>)] = &[
         (
@@ -138,11 +131,9 @@ fn trees_show_widths(rt: HostRuntime) -> Result<(), Fail> {
             Some(Width::Byte),
         ),
     ];
-    for (text, wanted) in ROWS {
-        let width = seen(program_of(alloc, &[*text]), width_of_first)?;
-        assert_eq!(rt; width, *wanted, "in {text:?}");
-    }
-    Ok(())
+    each(&rt, ROWS, |(text, wanted)| {
+        seen(program_of(alloc, &[*text]), width_of_first) == Ok(*wanted)
+    });
 }
 
 /// The operators of the chain that main's only statement stores, as far as there are two.
@@ -159,7 +150,7 @@ fn first_two(program: &Program) -> Option<[(BinaryOperation, Width); 2]> {
 
 // a number expression is INTEGER throughout where one is wanted: its divisions and relations are those of words with sign
 #[test]
-fn trees_are_turned_integer(rt: HostRuntime) -> Result<(), Fail> {
+fn trees_are_turned_integer(rt: HostRuntime) {
     let alloc = rt.alloc();
     const ROWS: &[(&[u8], [(BinaryOperation, Width); 2])] = &[
         (
@@ -198,11 +189,9 @@ fn trees_are_turned_integer(rt: HostRuntime) -> Result<(), Fail> {
             ],
         ),
     ];
-    for (text, wanted) in ROWS {
-        let shown = seen(program_of(alloc, &[*text]), first_two)?;
-        assert_eq!(rt; shown, Some(*wanted), "in {text:?}");
-    }
-    Ok(())
+    each(&rt, ROWS, |(text, wanted)| {
+        seen(program_of(alloc, &[*text]), first_two) == Ok(Some(*wanted))
+    });
 }
 
 /// How main's only statement, a DO with an index, counts, and its step.
@@ -217,7 +206,7 @@ fn counting(program: &Program) -> Option<(Counting, bool)> {
 
 // by a step of -1, which is 65,535 as a word
 #[test]
-fn trees_show_how_loops_count(rt: HostRuntime) -> Result<(), Fail> {
+fn trees_show_how_loops_count(rt: HostRuntime) {
     let alloc = rt.alloc();
     const ROWS: &[(&[u8], (Counting, bool))] = &[
         (
@@ -241,11 +230,9 @@ fn trees_show_how_loops_count(rt: HostRuntime) -> Result<(), Fail> {
             (Counting::Up, true),
         ),
     ];
-    for (text, wanted) in ROWS {
-        let shown = seen(program_of(alloc, &[*text]), counting)?;
-        assert_eq!(rt; shown, Some(*wanted), "in {text:?}");
-    }
-    Ok(())
+    each(&rt, ROWS, |(text, wanted)| {
+        seen(program_of(alloc, &[*text]), counting) == Ok(Some(*wanted))
+    });
 }
 
 /// What main's only statement copies: the BYTE variable that it stores, and the WORD variable that it reads.
@@ -280,33 +267,15 @@ fn copies_member(program: &Program) -> bool {
         && are_of_member(&read.subscripts)
 }
 
-#[test]
-fn trees_show_places(rt: HostRuntime) -> Result<(), Fail> {
-    let text: &[u8] =
-        b"M: DO; DECLARE X WORD, S(3) STRUCTURE (A BYTE, B(2) WORD), P WORD, V BASED P BYTE;\n\nV = S(X).B(1); END M;";
-    let copies = seen(program_of(rt.alloc(), &[text]), copies_member)?;
-    assert!(rt; copies);
-    Ok(())
-}
-
-/// How many statements the procedures for vectors 7, 8 and 255 have, and how many procedures there are, and names of procedures.
-fn counts(program: &Program) -> [usize; 5] {
+/// Whether the procedures for vectors 7, 8 and 255 have none, two and one statement, and there are two procedures, and names of them.
+fn has_two_handlers(program: &Program) -> bool {
     [
         program.handler(7).len(),
         program.handler(8).len(),
         program.handler(255).len(),
         program.procedures().len(),
         program.names().procedures.len(),
-    ]
-}
-
-#[test]
-fn handlers(rt: HostRuntime) -> Result<(), Fail> {
-    let text: &[u8] =
-        b"M: DO; H: PROCEDURE INTERRUPT 8; DISABLE; ; END H; K: PROCEDURE INTERRUPT 255; RETURN; END K; ; END M;";
-    let counted = seen(program_of(rt.alloc(), &[text]), counts)?;
-    assert_eq!(rt; counted, [0, 2, 1, 2, 2]);
-    Ok(())
+    ] == [0, 2, 1, 2, 2]
 }
 
 /// Whether the procedures 2 and 3 serve the vectors 0 and 8, and no other one serves 0, 8 or 255.
@@ -323,28 +292,42 @@ fn two_serve(program: &Program) -> bool {
         && procedures[3].vector() == Some(8)
 }
 
-// an EXTERNAL procedure serves no vector: its PUBLIC one does
-#[test]
-fn vectors_have_their_procedures(rt: HostRuntime) -> Result<(), Fail> {
-    let first: &[u8] =
-        b"M: DO; P: PROCEDURE; END P; H: PROCEDURE INTERRUPT 8 EXTERNAL; END H; K: PROCEDURE INTERRUPT 0; END K; ; END M;";
-    let second: &[u8] = b"N: DO; H: PROCEDURE INTERRUPT 8 PUBLIC; END H; END N;";
-    let serve = seen(program_of(rt.alloc(), &[first, second]), two_serve)?;
-    assert!(rt; serve);
-    Ok(())
-}
-
 /// Whether the procedures are in this order.
 fn is_ordered(program: &Program) -> bool {
     program.order() == [1, 3, 2, 0].as_slice()
 }
 
+/// Whether this is so of the program with these modules.
+fn holds_of<F: FnOnce(&Program) -> bool>(alloc: Global, texts: &[&[u8]], look: F) -> bool
+    requires { F.IsAlwaysCallable look }
+{
+    seen(program_of(alloc, texts), look) == Ok(true)
+}
+
+const SUM: &[u8] = b"M: DO; DECLARE B BYTE, W WORD; OUTPUT(1) = B + B * 2 - W = 3; END M;";
+
+const MEMBER: &[u8] =
+    b"M: DO; DECLARE X WORD, S(3) STRUCTURE (A BYTE, B(2) WORD), P WORD, V BASED P BYTE;\n\nV = S(X).B(1); END M;";
+
+const HANDLERS: &[u8] =
+    b"M: DO; H: PROCEDURE INTERRUPT 8; DISABLE; ; END H; K: PROCEDURE INTERRUPT 255; RETURN; END K; ; END M;";
+
+// an EXTERNAL procedure serves no vector: its PUBLIC one does
+const SERVES_EXTERNALLY: &[u8] =
+    b"M: DO; P: PROCEDURE; END P; H: PROCEDURE INTERRUPT 8 EXTERNAL; END H; K: PROCEDURE INTERRUPT 0; END K; ; END M;";
+
+const SERVES: &[u8] = b"N: DO; H: PROCEDURE INTERRUPT 8 PUBLIC; END H; END N;";
+
+// A, B, C, D in order of declaration: A calls C, C calls B and D, D calls B.
+const FOUR_CALLS: &[u8] =
+    b"M: DO; A: PROCEDURE; B: PROCEDURE; END B; C: PROCEDURE; D: PROCEDURE; CALL B; END D; CALL B; CALL D; END C; CALL C; END A; ; END M;";
+
 #[test]
-fn procedures_follow_what_they_call(rt: HostRuntime) -> Result<(), Fail> {
-    // A, B, C, D in order of declaration: A calls C, C calls B and D, D calls B.
-    let text: &[u8] =
-        b"M: DO; A: PROCEDURE; B: PROCEDURE; END B; C: PROCEDURE; D: PROCEDURE; CALL B; END D; CALL B; CALL D; END C; CALL C; END A; ; END M;";
-    let ordered = seen(program_of(rt.alloc(), &[text]), is_ordered)?;
-    assert!(rt; ordered);
-    Ok(())
+fn trees_of_programs(rt: HostRuntime) {
+    let alloc = rt.alloc();
+    assert!(rt; holds_of(alloc, &[SUM], sends_sum));
+    assert!(rt; holds_of(alloc, &[MEMBER], copies_member));
+    assert!(rt; holds_of(alloc, &[HANDLERS], has_two_handlers));
+    assert!(rt; holds_of(alloc, &[SERVES_EXTERNALLY, SERVES], two_serve));
+    assert!(rt; holds_of(alloc, &[FOUR_CALLS], is_ordered));
 }

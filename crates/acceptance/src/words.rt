@@ -1,62 +1,13 @@
 //! What no clause says: that calls succeed, and values from the language manual's own examples.
 
-use crate::expect::Expect;
+use crate::expect::{each, is_cut};
+use std::process::Abort;
 use std::test::Fail;
 use word86::{
     BinaryOperation, CutSink, Event, Fault, Label, Number, PAGE_SIZE, PowerOn, RAM_SIZE, SinkFault,
     Width, WriterSink, add8, add16, div16, idiv16, mul16, put_all, put_word, rol, ror, shl, shr,
     signed16, sub16, unsigned16, word_at,
 };
-
-#[test]
-fn wraps_to_the_width(rt: HostRuntime) {
-    let mut expect = Expect::new(&rt);
-    expect.same(add8(255, 1), 0);
-    expect.same(add16(0xFFFF, 2), 1);
-    expect.same(sub16(0, 1), 0xFFFF);
-    expect.same(mul16(0x1234, 0x100), 0x3400);
-    expect.same(div16(1000, 300), (3, 100));
-}
-
-#[test]
-fn shifts_and_turns(rt: HostRuntime) {
-    let mut expect = Expect::new(&rt);
-    // PL/M-86 User's Guide, shift and rotate functions
-    expect.same(shl(Width::Byte, 1, 9), 0);
-    expect.same(shl(Width::Word, 1, 9), 0x200);
-    expect.same(shl(Width::Word, 0xFFFF, 255), 0);
-    expect.same(shr(Width::Byte, 0x1F0, 4), 0xF);
-    expect.same(shr(Width::Word, 0x8000, 15), 1);
-    expect.same(shr(Width::Word, 0x8000, 16), 0);
-    expect.same(rol(Width::Byte, 0x81, 1), 3);
-    expect.same(rol(Width::Word, 0x8001, 17), 3);
-    expect.same(ror(Width::Byte, 0x81, 1), 0xC0);
-    expect.same(ror(Width::Word, 0x8001, 0), 0x8001);
-    expect.same(ror(Width::Byte, 0x12, 4), 0x21);
-}
-
-#[test]
-fn reads_words_with_sign(rt: HostRuntime) {
-    let mut expect = Expect::new(&rt);
-    const ROWS: &[(u16, i16)] = &[
-        (0, 0),
-        (0x7FFF, 32767),
-        (0x8000, -32768),
-        (0xFFF9, -7),
-        (0xFFFF, -1),
-    ];
-    for (word, number) in ROWS {
-        expect.same(signed16(*word), *number);
-        expect.same(unsigned16(*number), *word);
-    }
-    // The remainder has the sign of the dividend.
-    expect.same(idiv16(-7, 2), (-3, -1));
-    expect.same(idiv16(7, -2), (-3, 1));
-    expect.same(idiv16(-7, -2), (3, -1));
-    expect.same(idiv16(-32768, 1), (-32768, 0));
-    expect.same(idiv16(-32768, -2), (16384, 0));
-    expect.same(idiv16(32767, -1), (-32767, 0));
-}
 
 // Operators of words with sign: -7 is 0FFF9H, -3 is 0FFFDH, -2 is 0FFFEH, -1 is 0FFFFH, -32,768 is 8000H.
 const SIGNED: &[(BinaryOperation, u16, u16, Option<u16>)] = &[
@@ -95,67 +46,138 @@ const SIGNED: &[(BinaryOperation, u16, u16, Option<u16>)] = &[
 
 #[test]
 fn computes_with_sign(rt: HostRuntime) {
-    let mut expect = Expect::new(&rt);
-    for (operation, left, right, value) in SIGNED {
-        expect.same(operation.value(Width::Word, *left, *right), *value);
-    }
+    each(&rt, SIGNED, |(operation, left, right, value)| {
+        operation.value(Width::Word, *left, *right) == *value
+    });
+}
+
+/// Words, and the numbers with sign that they are.
+const NUMBERS: &[(u16, i16)] = &[
+    (0, 0),
+    (0x7FFF, 32767),
+    (0x8000, -32768),
+    (0xFFF9, -7),
+    (0xFFFF, -1),
+];
+
+#[test]
+fn reads_words_with_sign(rt: HostRuntime) {
+    each(&rt, NUMBERS, |(word, number)| {
+        signed16(*word) == *number && unsigned16(*number) == *word
+    });
+    // The remainder has the sign of the dividend.
+    assert!(rt; idiv16(-7, 2) == (-3, -1) && idiv16(7, -2) == (-3, 1) && idiv16(-7, -2) == (3, -1));
+    assert!(rt;
+        idiv16(-32768, 1) == (-32768, 0)
+            && idiv16(-32768, -2) == (16384, 0)
+            && idiv16(32767, -1) == (-32767, 0)
+    );
+}
+
+/// A value, and by how many places it is moved, and what comes of it.
+type Moved = (Width, u16, u8, u16);
+
+// PL/M-86 User's Guide, shift and rotate functions
+const LEFT: &[Moved] = &[
+    (Width::Byte, 1, 9, 0),
+    (Width::Word, 1, 9, 0x200),
+    (Width::Word, 0xFFFF, 255, 0),
+];
+
+const RIGHT: &[Moved] = &[
+    (Width::Byte, 0x1F0, 4, 0xF),
+    (Width::Word, 0x8000, 15, 1),
+    (Width::Word, 0x8000, 16, 0),
+];
+
+const TURNED_LEFT: &[Moved] = &[(Width::Byte, 0x81, 1, 3), (Width::Word, 0x8001, 17, 3)];
+
+const TURNED_RIGHT: &[Moved] = &[
+    (Width::Byte, 0x81, 1, 0xC0),
+    (Width::Word, 0x8001, 0, 0x8001),
+    (Width::Byte, 0x12, 4, 0x21),
+];
+
+#[test]
+fn shifts_and_turns(rt: HostRuntime) {
+    each(
+        &rt,
+        LEFT,
+        |(width, word, places, moved)| shl(*width, *word, *places) == *moved,
+    );
+    each(
+        &rt,
+        RIGHT,
+        |(width, word, places, moved)| shr(*width, *word, *places) == *moved,
+    );
+    each(
+        &rt,
+        TURNED_LEFT,
+        |(width, word, places, moved)| rol(*width, *word, *places) == *moved,
+    );
+    each(
+        &rt,
+        TURNED_RIGHT,
+        |(width, word, places, moved)| ror(*width, *word, *places) == *moved,
+    );
+}
+
+#[test]
+fn wraps_to_the_width(rt: HostRuntime) {
+    assert!(rt;
+        [
+            u16::from(add8(255, 1)),
+            add16(0xFFFF, 2),
+            sub16(0, 1),
+            mul16(0x1234, 0x100)
+        ] == [0, 1, 0xFFFF, 0x3400]
+    );
+    assert!(rt; div16(1000, 300) == (3, 100));
 }
 
 #[test]
 fn puts_the_low_byte_first(rt: HostRuntime) {
-    let mut expect = Expect::new(&rt);
     let mut bytes = [9, 9, 9, 9];
     put_word(&mut bytes, 1, 0x1234);
-    expect.same(bytes, [9, 0x34, 0x12, 9]);
-    expect.same(word_at(&bytes, 1), 0x1234);
+    assert!(rt; bytes == [9, 0x34, 0x12, 9] && word_at(&bytes, 1) == 0x1234);
+}
+
+/// Whether there are so many bytes, each 0A5H.
+fn are_filled(part: &[u8], size: usize) -> bool {
+    part.len() == size && part.iter().all(|byte| *byte == 0xA5)
 }
 
 #[test]
 fn fills_memory(rt: HostRuntime) -> Result<(), Fail> {
-    let mut expect = Expect::new(&rt);
     let memory = PowerOn::filled(rt.alloc(), 0xA5)?;
-    expect.same(memory.ram().len(), RAM_SIZE);
-    for part in [memory.ram(), memory.colour(), memory.monochrome()] {
-        expect.holds(part.iter().all(|byte| *byte == 0xA5));
-    }
+    assert!(rt; are_filled(memory.ram(), RAM_SIZE));
+    assert!(rt; are_filled(memory.colour(), PAGE_SIZE));
+    assert!(rt; are_filled(memory.monochrome(), PAGE_SIZE));
     let (ram, colour, monochrome) = memory.into_parts();
-    expect.same(colour.len(), PAGE_SIZE);
-    expect.same(monochrome.len(), PAGE_SIZE);
     let again = PowerOn::new(ram, colour, monochrome);
-    expect.same(again.ram().len(), RAM_SIZE);
+    assert!(rt; are_filled(again.ram(), RAM_SIZE));
     Ok(())
 }
 
 #[test]
 fn names_faults(rt: HostRuntime) -> Result<(), Fail> {
-    let mut expect = Expect::new(&rt);
-    expect.same(Number::E308.text(), "E308 no main module or more than one");
-    expect.same(
-        Number::W1.text(),
-        "W1 procedure shared with an interrupt procedure",
+    assert!(rt;
+        Number::E308.text() == "E308 no main module or more than one"
+            && Number::W1.text() == "W1 procedure shared with an interrupt procedure"
+            && Number::E308.code() == 308
     );
-    expect.same(Number::E308.code(), 308);
     let fault = Fault::At(1, 12, Number::E201);
-    expect.same(
-        format!(in rt.alloc(); "{fault}")?.as_str(),
-        "module 1, line 12: E201 syntax",
-    );
     let memory = Fault::Memory;
-    expect.same(
-        format!(in rt.alloc(); "{memory}")?.as_str(),
-        "out of memory",
-    );
+    let told = format!(in rt.alloc(); "{fault}; {memory}")?;
+    assert!(rt; told.as_str() == "module 1, line 12: E201 syntax; out of memory");
     Ok(())
 }
 
 #[test]
 fn takes_a_text_byte_by_byte(rt: HostRuntime) -> Result<(), Fail> {
-    let mut expect = Expect::new(&rt);
     let mut sink = CutSink::new(rt.alloc(), 5, 1)?;
-    expect.same(put_all(&mut sink, b"abc"), Ok(()));
-    expect.same(put_all(&mut sink, b"def"), Err(SinkFault));
-    expect.same(sink.bytes(), b"abcde".as_slice());
-    expect.same(sink.failures(), 1);
+    let put = (put_all(&mut sink, b"abc"), put_all(&mut sink, b"def"));
+    assert!(rt; put == (Ok(()), Err(SinkFault)) && is_cut(&sink, b"abcdef", 5));
     Ok(())
 }
 
@@ -167,7 +189,6 @@ fn writes_through(rt: HostRuntime) {
 
 #[test]
 fn shows_events(rt: HostRuntime) {
-    let mut expect = Expect::new(&rt);
-    expect.same(Event::Tick(65535).label(), Label::Tick(65535));
-    expect.same(Event::Key(0x1E).label(), Label::Key(0x1E));
+    assert!(rt; Event::Tick(65535).label() == Label::Tick(65535));
+    assert!(rt; Event::Key(0x1E).label() == Label::Key(0x1E));
 }
