@@ -1,12 +1,11 @@
 //! What no command shows of a board: its turns one by one, and a run whose sink is full. ROMs and their traces are rows of tests/roms.txt.
 
-use crate::expect::{Expect, is_cut};
+use crate::expect::{each, is_written};
 use board::{Board, End, read_schedule};
 use cpu8086::{Kind, Turn};
-use std::alloc::Global;
+use std::alloc::{AllocError, Global};
 use std::process::Abort;
-use std::test::Fail;
-use word86::{CutSink, Event, Fault, Label, Number, PowerOn};
+use word86::{CutSink, Event, Fault, Label, PowerOn};
 
 /// JMP 0F000H:0E000H.
 const TO_THE_FRONT: [u8; 5] = [0xEA, 0x00, 0xE0, 0x00, 0xF0];
@@ -33,7 +32,7 @@ const WAKES_BY_A_KEY: [u8; 49] = [
 ];
 
 /// 8 KiB of zeros with the first bytes at the front and the others at 0FFFF0H.
-fn rom(alloc: Global, code: &[u8], reset: &[u8]) -> Result<Vec<u8>, Fail> {
+fn rom(alloc: Global, code: &[u8], reset: &[u8]) -> Result<Vec<u8>, AllocError> {
     let mut bytes = vec![in alloc; 0u8; 8192]?;
     for (place, byte) in code.iter().enumerate() {
         if place < bytes.len() {
@@ -48,21 +47,8 @@ fn rom(alloc: Global, code: &[u8], reset: &[u8]) -> Result<Vec<u8>, Fail> {
     Ok(bytes)
 }
 
-/// How the run of a ROM ends, whose trace goes to the sink.
-fn run_of(
-    alloc: Global,
-    rom: &[u8],
-    schedule: &[u8],
-    sink: &mut CutSink,
-) -> Result<Result<End, Fault>, Fail> {
-    let schedule = read_schedule(alloc, schedule)?;
-    let memory = PowerOn::filled(alloc, schedule.fill())?;
-    let mut board = Board::new(alloc, rom, memory)?;
-    Ok(board.run(&schedule, sink))
-}
-
 /// The turn with these events, after this number of turns without any.
-fn turn_of(alloc: Global, rom: &[u8], before: u32, events: &[Event]) -> Result<Turn, Fail> {
+fn turn_of(alloc: Global, rom: &[u8], before: u32, events: &[Event]) -> Result<Turn, Fault> {
     let mut board = Board::new(alloc, rom, PowerOn::filled(alloc, 0)?)?;
     for _ in 0..before {
         board.turn(&[]);
@@ -103,36 +89,39 @@ const TURNS: &[Row] = &[
     ),
 ];
 
-#[test]
-fn turns_one_by_one(rt: HostRuntime) -> Result<(), Fail> {
-    for (code, reset, before, events, kind, labels) in TURNS {
-        let rom = rom(rt.alloc(), code, reset)?;
-        let turn = turn_of(rt.alloc(), &rom, *before, events)?;
-        assert!(rt;
-            turn.kind == *kind && turn.labels.as_slice() == *labels,
-            "turn {before}"
-        );
-    }
-    Ok(())
+/// Whether the turn of a row is of its kind and has its labels.
+fn is_made(alloc: Global, row: &Row) -> Result<bool, Fault> {
+    let (code, reset, before, events, kind, labels) = row;
+    let rom = rom(alloc, code, reset)?;
+    let turn = turn_of(alloc, &rom, *before, events)?;
+    Ok(turn.kind == *kind && turn.labels.as_slice() == *labels)
 }
 
-// A sink that takes k bytes and then fails has them, and one that takes one byte a call takes the whole text.
 #[test]
-fn failing_sinks(rt: HostRuntime) -> Result<(), Fail> {
-    let mut expect = Expect::new(&rt);
+fn turns_one_by_one(rt: HostRuntime) {
     let alloc = rt.alloc();
-    let rom = rom(alloc, &POLLS_THE_KEYBOARD, &TO_THE_FRONT)?;
-    let text: &[u8] =
-        b"OUT 0063 99\nIN 0060 00\nIN 0060 00\nKEY 1E\nIN 0060 1E\nOUT 0300 01\nTICK 12\nEND 40\n";
-    let schedule = b"AT 8 KEY 1E\nAT 30 TICK 12\nSTOP 40";
-    for room in 0..text.len() {
-        let mut sink = CutSink::new(alloc, room, 7)?;
-        let end = run_of(alloc, &rom, schedule, &mut sink)?;
-        expect.same(end, Err(Fault::At(0, 1, Number::E704)));
-        expect.holds(is_cut(&sink, text, room));
+    each(&rt, TURNS, |row| is_made(alloc, row) == Ok(true));
+}
+
+/// A run of the ROM that waits for a key, up to its stop.
+fn runs(alloc: Global, rom: &[u8], sink: &mut CutSink) -> Result<(), Fault> {
+    let schedule = read_schedule(alloc, b"AT 8 KEY 1E\nAT 30 TICK 12\nSTOP 40")?;
+    let mut board = Board::new(alloc, rom, PowerOn::filled(alloc, 0)?)?;
+    match board.run(&schedule, sink)? {
+        End::Stopped => Ok(()),
+        End::Opcode(_) => Err(Fault::Memory),
     }
-    let mut sink = CutSink::new(alloc, text.len(), 1)?;
-    expect.same(run_of(alloc, &rom, schedule, &mut sink)?, Ok(End::Stopped));
-    expect.same(sink.bytes(), text);
-    Ok(())
+}
+
+/// Whether the ROM writes its trace, whatever the sink.
+fn writes_its_trace(alloc: Global) -> Result<bool, Fault> {
+    const TRACE: &[u8] =
+        b"OUT 0063 99\nIN 0060 00\nIN 0060 00\nKEY 1E\nIN 0060 1E\nOUT 0300 01\nTICK 12\nEND 40\n";
+    let rom = rom(alloc, &POLLS_THE_KEYBOARD, &TO_THE_FRONT)?;
+    is_written(alloc, TRACE, |sink| runs(alloc, &rom, sink))
+}
+
+#[test]
+fn failing_sinks(rt: HostRuntime) {
+    assert!(rt; writes_its_trace(rt.alloc()) == Ok(true));
 }

@@ -5,7 +5,6 @@ mod vectors;
 
 use self::text::Text;
 use self::vectors::{READ, REFUSED, WRITTEN};
-use crate::expect::Expect;
 use arrayvec::ArrayVec;
 use i86_code::{Form, decode, encode, instruction_fits, one_form, round_trip};
 use i86_table::Instr;
@@ -94,10 +93,8 @@ fn refused(rt: HostRuntime) {
 /// Each other public call once.
 #[test]
 fn forms(rt: HostRuntime) {
-    let mut expect = Expect::new(&rt);
     one_form();
     instruction_fits(Instr::Nop);
     let form = Form::of(Instr::Return);
-    expect.holds(matches!(form.instruction(), Some(Instr::Return)));
-    expect.holds(form.opcode.byte() == 0xC3);
+    assert!(rt; matches!(form.instruction(), Some(Instr::Return)) && form.opcode.byte() == 0xC3);
 }

@@ -1,10 +1,23 @@
 //! Rows from the 8259A's data sheet, worked by hand; those of rotation are from its table of OCW2.
 
-use crate::digits::{byte, digit};
 use crate::expect::each;
 use pic8259::{Call, Reply, replay};
 use std::alloc::{AllocError, Global};
 use std::process::Abort;
+
+/// What a hexadecimal digit stands for.
+fn digit(character: u8) -> u8 {
+    match character {
+        b'0'..=b'9' => character.wrapping_sub(b'0'),
+        b'A'..=b'F' => character.wrapping_sub(b'A').wrapping_add(10),
+        _ => 0,
+    }
+}
+
+/// A byte in two hexadecimal digits.
+fn byte(high: u8, low: u8) -> u8 {
+    digit(high).wrapping_mul(16).wrapping_add(digit(low))
+}
 
 /// A call by its word: `p3` or `p03` a rise of line 3, `w0:A0` a write of 0A0H at A0 = 0, `r0` a read there, `l` a look at INT, and `a`
 /// an acknowledgement, which answers nothing while INT is down.

@@ -9,8 +9,6 @@ mod codec;
 #[cfg(test)]
 mod declared_names;
 #[cfg(test)]
-mod digits;
-#[cfg(test)]
 mod expect;
 #[cfg(test)]
 mod flags;
@@ -32,8 +30,6 @@ mod lowering;
 mod meaning;
 #[cfg(test)]
 mod nodes;
-#[cfg(test)]
-mod ports;
 #[cfg(test)]
 mod schedules;
 #[cfg(test)]

@@ -1,7 +1,7 @@
 //! Listings and maps of what no source gives, and through sinks that are full; those of sources are in tests/listings.
 
-use crate::expect::{Expect, is_cut};
-use crate::sources::{program_of, seen};
+use crate::expect::is_written;
+use crate::sources::{program_of, then};
 use frames::Stack;
 use layout_link::Image;
 use listing_map::{listing, map};
@@ -9,71 +9,50 @@ use plm_decl::Placement;
 use plm_type::{Program, Warning};
 use std::alloc::Global;
 use std::process::Abort;
-use std::test::Fail;
-use word86::{CutSink, Fault, Number};
-
-const CANNOT_WRITE: Fault = Fault::At(0, 1, Number::E704);
+use word86::Fault;
 
 fn at(line: u32) -> Warning {
     Warning { module: 0, line }
 }
 
-// an empty source has no line; the lines of warnings may stand in any order, twice, and where the source has no line
-#[test]
-fn lists_each_warning(rt: HostRuntime) -> Result<(), Fail> {
-    let mut expect = Expect::new(&rt);
-    let mut empty = CutSink::new(rt.alloc(), 100, 100)?;
-    expect.same(listing(b"", &[], &mut empty), Ok(()));
-    expect.same(empty.bytes(), b"".as_slice());
-    let warnings = [at(4), at(2), at(9), at(2), at(0), at(4294967295)];
-    let mut sink = CutSink::new(rt.alloc(), 300, 7)?;
-    expect.same(listing(b"A\nB\nC\nD", &warnings, &mut sink), Ok(()));
-    expect.same(
-        sink.bytes(),
-        b"    1  A
+const WARNED: &[u8] = b"    1  A
     2  B
 ***** W1 procedure shared with an interrupt procedure
 ***** W1 procedure shared with an interrupt procedure
     3  C
     4  D
 ***** W1 procedure shared with an interrupt procedure
-"
-            .as_slice(),
-    );
-    Ok(())
-}
+";
 
+const WITHOUT_CR: &[u8] =
+    b"    1  A\n    2  B\n***** W1 procedure shared with an interrupt procedure\n    3  C\n";
+
+// an empty source has no line; lines of warnings may stand in any order, twice, and where the source has no line
 #[test]
-fn listing_stops_where_the_sink_does(rt: HostRuntime) -> Result<(), Fail> {
-    let mut expect = Expect::new(&rt);
-    let text: &[u8] =
-        b"    1  A\n    2  B\n***** W1 procedure shared with an interrupt procedure\n    3  C\n";
-    for room in 0..text.len() {
-        let mut sink = CutSink::new(rt.alloc(), room, 1)?;
-        let written = listing(b"A\r\nB\nC", &[at(2)], &mut sink);
-        expect.same(written, Err(CANNOT_WRITE));
-        expect.holds(is_cut(&sink, text, room));
-    }
-    let mut sink = CutSink::new(rt.alloc(), text.len(), 1)?;
-    expect.same(listing(b"A\r\nB\nC", &[at(2)], &mut sink), Ok(()));
-    expect.same(sink.bytes(), text);
-    expect.same(sink.failures(), 0);
-    Ok(())
+fn listings_of_lines(rt: HostRuntime) {
+    let alloc = rt.alloc();
+    let warnings = [at(4), at(2), at(9), at(2), at(0), at(4294967295)];
+    let empty = is_written(alloc, b"", |sink| listing(b"", &[], sink));
+    let warned = is_written(
+        alloc,
+        WARNED,
+        |sink| listing(b"A\nB\nC\nD", &warnings, sink),
+    );
+    let one = is_written(
+        alloc,
+        WITHOUT_CR,
+        |sink| listing(b"A\r\nB\nC", &[at(2)], sink),
+    );
+    assert!(rt; (empty, warned, one) == (Ok(true), Ok(true), Ok(true)));
 }
 
 /// A program's image, of which the map reads no bytes of the ROM.
-fn image_of(
-    alloc: Global,
-    length: usize,
-    offsets: &[u16],
-    stack: Stack,
-    start_turns: u32,
-) -> Result<Image, Fault> {
+fn image_of(alloc: Global, stack: Stack) -> Result<Image, Fault> {
     Ok(Image {
-        rom: vec![in alloc; 0u8; length]?,
-        placement: Placement::of(Vec::from_slice(alloc, offsets)?),
+        rom: vec![in alloc; 0u8; 16384]?,
+        placement: Placement::of(Vec::from_slice(alloc, &[2, 3, 4, 0xEFFE])?),
         stack,
-        start_turns,
+        start_turns: 4294967295,
     })
 }
 
@@ -102,55 +81,22 @@ STACK 001A 0FFE
 START 4294967295
 ";
 
-/// Fails unless the image of this program has this map, also in a sink that takes three bytes a call.
-fn is_mapped(
-    rt: &impl Abort,
-    alloc: Global,
-    image: &Image,
-    program: &Program,
-    text: &[u8],
-) -> Result<(), Fail> {
-    let mut expect = Expect::new(rt);
-    for step in [1000, 3] {
-        let mut sink = CutSink::new(alloc, 1000, step)?;
-        expect.same(map(image, program, &mut sink), Ok(()));
-        expect.same(sink.bytes(), text);
-    }
-    Ok(())
-}
-
-/// Fails unless the map stops where a sink does, whatever its room.
-fn is_cut_anywhere(
-    rt: &impl Abort,
-    alloc: Global,
-    image: &Image,
-    program: &Program,
-    text: &[u8],
-) -> Result<(), Fail> {
-    let mut expect = Expect::new(rt);
-    for room in 0..text.len() {
-        let mut sink = CutSink::new(alloc, room, 1)?;
-        expect.same(map(image, program, &mut sink), Err(CANNOT_WRITE));
-        expect.holds(is_cut(&sink, text, room));
-    }
-    Ok(())
-}
-
-fn maps_program(rt: &impl Abort, alloc: Global, program: &Program) -> Result<(), Fail> {
+/// Whether the program has that map. The last object has no offset.
+fn is_mapped(alloc: Global, program: &Program) -> Result<bool, Fault> {
     let stack = Stack {
         main: 0x1A,
         handler: 0xFFE,
     };
-    // the last object has no offset
-    let image = image_of(alloc, 16384, &[2, 3, 4, 0xEFFE], stack, 4294967295)?;
-    is_mapped(rt, alloc, &image, program, MAP)?;
-    is_cut_anywhere(rt, alloc, &image, program, MAP)
+    then(image_of(alloc, stack), |image| {
+        is_written(alloc, MAP, |sink| map(image, program, sink))
+    })
 }
 
 #[test]
-fn maps_a_program(rt: HostRuntime) -> Result<(), Fail> {
+fn maps_a_program(rt: HostRuntime) {
     let alloc = rt.alloc();
-    seen(program_of(alloc, &[PROGRAM]), |program| {
-        maps_program(&rt, alloc, program)
-    })?
+    let mapped = then(program_of(alloc, &[PROGRAM]), |program| {
+        is_mapped(alloc, program)
+    });
+    assert!(rt; mapped == Ok(true));
 }

@@ -208,9 +208,7 @@ fn many(alloc: Global, before: &[u8], part: &[u8], behind: &[u8]) -> Result<Vec<
 }
 
 // With N alone, with both, with other texts of theirs, and without them.
-#[test]
-fn long_texts_declared_anew(rt: HostRuntime) -> Result<(), Fault> {
-    let alloc = rt.alloc();
+fn gives_long_texts(alloc: Global) -> Result<bool, Fault> {
     let declared = many(
         alloc,
         b"DECLARE A LITERALLY 'N', B LITERALLY 'O', T LITERALLY '",
@@ -225,6 +223,10 @@ fn long_texts_declared_anew(rt: HostRuntime) -> Result<(), Fault> {
         b"N ",
         b"1 N O",
     )?;
-    assert!(rt; gives_behind(alloc, &declared, source, &wanted, None)?);
-    Ok(())
+    gives_behind(alloc, &declared, source, &wanted, None)
+}
+
+#[test]
+fn long_texts_declared_anew(rt: HostRuntime) {
+    assert!(rt; gives_long_texts(rt.alloc()) == Ok(true));
 }

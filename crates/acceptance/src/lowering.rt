@@ -425,9 +425,7 @@ fn sends(port: u16, value: u16) -> Access {
 }
 
 /// The index is compared, sent, and read for the sum; the sum is stored, and wraps at last.
-#[test]
-fn rounds_wrap(rt: HostRuntime) -> Result<(), Fault> {
-    let alloc = rt.alloc();
+fn rounds_wrap(alloc: Global) -> Result<bool, Fault> {
     let text =
         b"M: DO; DECLARE I BYTE; DO I = 250 TO 255; OUTPUT(300H) = I; END; OUTPUT(301H) = I; END M;";
     let mut wanted = [writes(0, 250)].to_vec(alloc)?;
@@ -442,15 +440,11 @@ fn rounds_wrap(rt: HostRuntime) -> Result<(), Fault> {
         wanted.extend_from_slice(&round)?;
     }
     wanted.extend_from_slice(&[reads(0), sends(0x301, 0)])?;
-    let made = makes(alloc, &[text], &[2], 1, (wanted.as_slice(), End::Halted));
-    assert!(rt; made == Ok(true));
-    Ok(())
+    makes(alloc, &[text], &[2], 1, (wanted.as_slice(), End::Halted))
 }
 
 /// In each round the base is read, and then what it leads to: A in each one, as no interrupt comes.
-#[test]
-fn rounds_read_the_base(rt: HostRuntime) -> Result<(), Fault> {
-    let alloc = rt.alloc();
+fn rounds_read_the_base(alloc: Global) -> Result<bool, Fault> {
     let text =
         b"M: DO; DECLARE P WORD, A BYTE INITIAL (1), C BYTE INITIAL (2), B BASED P BYTE, I BYTE; H: PROCEDURE INTERRUPT 8; P = .C; END H; OUTPUT(43H) = 14H; OUTPUT(40H) = 2; HALT; P = .A; DO I = 1 TO 200; OUTPUT(300H) = B; END; END M;";
     let base = Place::Ram(0, 0);
@@ -474,15 +468,19 @@ fn rounds_read_the_base(rt: HostRuntime) -> Result<(), Fault> {
     }
     wanted.push(reads(3))?;
     let offsets = [2, 4, 5, 6];
-    let made = makes(
+    makes(
         alloc,
         &[text],
         &offsets,
         2,
         (wanted.as_slice(), End::Halted),
-    );
-    assert!(rt; made == Ok(true));
-    Ok(())
+    )
+}
+
+#[test]
+fn rounds(rt: HostRuntime) {
+    assert!(rt; rounds_wrap(rt.alloc()) == Ok(true));
+    assert!(rt; rounds_read_the_base(rt.alloc()) == Ok(true));
 }
 
 /// Whether the code has two sections, main in this one, and a procedure in each.

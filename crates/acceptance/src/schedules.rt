@@ -1,8 +1,8 @@
 //! Where a schedule pauses next, which no command tells; its forms and faults are rows of tests/roms.txt.
 
+use crate::sources::seen;
 use board::{Schedule, read_schedule};
 use std::process::Abort;
-use std::test::Fail;
 
 /// A turn, and the next one that has an event, or the stop.
 const PAUSES: &[(u32, u32)] = &[(0, 5), (4, 5), (5, 7), (7, 9), (8, 9)];
@@ -13,11 +13,10 @@ fn pauses_so(schedule: &Schedule) -> bool {
 }
 
 #[test]
-fn pauses_of_a_schedule(rt: HostRuntime) -> Result<(), Fail> {
+fn pauses_of_a_schedule(rt: HostRuntime) {
     let schedule = read_schedule(
         rt.alloc(),
         b"AT 5 KEY 1E\nAT 5 TICK 65535\nAT 7 KEY 30\nSTOP 9",
-    )?;
-    assert!(rt; pauses_so(&schedule));
-    Ok(())
+    );
+    assert!(rt; seen(schedule, pauses_so) == Ok(true));
 }

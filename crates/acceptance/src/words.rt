@@ -1,8 +1,8 @@
 //! What no clause says: that calls succeed, and values from the language manual's own examples.
 
 use crate::expect::{each, is_cut};
+use std::alloc::{AllocError, Global};
 use std::process::Abort;
-use std::test::Fail;
 use word86::{
     BinaryOperation, CutSink, Event, Fault, Label, Number, PAGE_SIZE, PowerOn, RAM_SIZE, SinkFault,
     Width, WriterSink, add8, add16, div16, idiv16, mul16, put_all, put_word, rol, ror, shl, shr,
@@ -147,38 +147,47 @@ fn are_filled(part: &[u8], size: usize) -> bool {
     part.len() == size && part.iter().all(|byte| *byte == 0xA5)
 }
 
-#[test]
-fn fills_memory(rt: HostRuntime) -> Result<(), Fail> {
-    let memory = PowerOn::filled(rt.alloc(), 0xA5)?;
-    assert!(rt; are_filled(memory.ram(), RAM_SIZE));
-    assert!(rt; are_filled(memory.colour(), PAGE_SIZE));
-    assert!(rt; are_filled(memory.monochrome(), PAGE_SIZE));
+fn is_filled(alloc: Global) -> Result<bool, Fault> {
+    let memory = PowerOn::filled(alloc, 0xA5)?;
+    let is_so = are_filled(memory.ram(), RAM_SIZE)
+        && are_filled(memory.colour(), PAGE_SIZE)
+        && are_filled(memory.monochrome(), PAGE_SIZE);
     let (ram, colour, monochrome) = memory.into_parts();
     let again = PowerOn::new(ram, colour, monochrome);
-    assert!(rt; are_filled(again.ram(), RAM_SIZE));
-    Ok(())
+    Ok(is_so && are_filled(again.ram(), RAM_SIZE))
 }
 
 #[test]
-fn names_faults(rt: HostRuntime) -> Result<(), Fail> {
+fn fills_memory(rt: HostRuntime) {
+    assert!(rt; is_filled(rt.alloc()) == Ok(true));
+}
+
+fn are_told(alloc: Global) -> Result<bool, AllocError> {
+    let fault = Fault::At(1, 12, Number::E201);
+    let memory = Fault::Memory;
+    let told = format!(in alloc; "{fault}; {memory}")?;
+    Ok(told.as_str() == "module 1, line 12: E201 syntax; out of memory")
+}
+
+#[test]
+fn names_faults(rt: HostRuntime) {
+    assert!(rt; are_told(rt.alloc()) == Ok(true));
     assert!(rt;
         Number::E308.text() == "E308 no main module or more than one"
             && Number::W1.text() == "W1 procedure shared with an interrupt procedure"
             && Number::E308.code() == 308
     );
-    let fault = Fault::At(1, 12, Number::E201);
-    let memory = Fault::Memory;
-    let told = format!(in rt.alloc(); "{fault}; {memory}")?;
-    assert!(rt; told.as_str() == "module 1, line 12: E201 syntax; out of memory");
-    Ok(())
+}
+
+fn takes_five_bytes(alloc: Global) -> Result<bool, AllocError> {
+    let mut sink = CutSink::new(alloc, 5, 1)?;
+    let put = (put_all(&mut sink, b"abc"), put_all(&mut sink, b"def"));
+    Ok(put == (Ok(()), Err(SinkFault)) && is_cut(&sink, b"abcdef", 5))
 }
 
 #[test]
-fn takes_a_text_byte_by_byte(rt: HostRuntime) -> Result<(), Fail> {
-    let mut sink = CutSink::new(rt.alloc(), 5, 1)?;
-    let put = (put_all(&mut sink, b"abc"), put_all(&mut sink, b"def"));
-    assert!(rt; put == (Ok(()), Err(SinkFault)) && is_cut(&sink, b"abcdef", 5));
-    Ok(())
+fn takes_a_text_byte_by_byte(rt: HostRuntime) {
+    assert!(rt; takes_five_bytes(rt.alloc()) == Ok(true));
 }
 
 #[test]
