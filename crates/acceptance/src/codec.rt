@@ -39,55 +39,65 @@ fn bytes_of(codes: &str) -> ArrayVec<u8, 8> {
     bytes
 }
 
-/// The instruction that the bytes of a line are read as, whole, after which its text is compared.
-fn read_line(rt: &impl Abort, alloc: Global, bytes: &[u8], text: &str) -> Instr {
+/// Whether this is an instruction's text.
+fn has_text(alloc: Global, instruction: Instr, text: &str) -> bool {
+    match format!(in alloc; "{}", Text(instruction)) {
+        Ok(found) => found.as_str() == text,
+        Err(_) => false,
+    }
+}
+
+/// Whether the bytes are read, whole, as an instruction of this text, and whether they are what is written for it.
+fn is_read(alloc: Global, bytes: &[u8], text: &str, is_written: bool) -> bool {
     let Some((instruction, length)) = decode(bytes) else {
-        panic!(rt; "{text} is not read");
+        return false;
     };
-    assert!(rt; length == bytes.len(), "{text}");
-    let got = format!(in alloc; "{}", Text(instruction)).expect(rt, "memory");
-    assert!(rt; got.as_str() == text, "{got} for {text}");
-    instruction
+    round_trip(instruction, bytes);
+    length == bytes.len()
+        && has_text(alloc, instruction, text)
+        && (encode(&instruction).as_slice() == bytes) == is_written
+}
+
+/// The same for a line, of bytes and a text.
+fn is_line(alloc: Global, line: &str, is_written: bool) -> bool {
+    match line.split_once(" | ") {
+        Some((codes, text)) => is_read(alloc, bytes_of(codes).as_slice(), text, is_written),
+        None => false,
+    }
+}
+
+/// Each line has to hold.
+fn each_line<F: Fn(&str) -> bool>(rt: &impl Abort, lines: &str, holds: F)
+    requires { F.IsAlwaysCallable holds }
+{
+    for line in lines.lines() {
+        assert!(rt; holds(line), "{line}");
+    }
 }
 
 /// Each text's bytes are read so and written for it.
 #[test]
 fn written(rt: HostRuntime) {
-    let mut lines = 0_u32;
-    for line in WRITTEN.lines() {
-        let (codes, text) = line.split_once(" | ").expect(&rt, "a line");
-        let bytes = bytes_of(codes);
-        let instruction = read_line(&rt, rt.alloc(), bytes.as_slice(), text);
-        assert!(rt;
-            encode(&instruction).as_slice() == bytes.as_slice(),
-            "{text}"
-        );
-        round_trip(instruction, bytes.as_slice());
-        lines = lines.wrapping_add(1);
-    }
-    assert!(rt; lines > 200);
+    let alloc = rt.alloc();
+    each_line(&rt, WRITTEN, |line| is_line(alloc, line, true));
+    assert!(rt; WRITTEN.lines().count() > 200);
 }
 
 /// Longer and other spellings are read as the text too.
 #[test]
 fn read(rt: HostRuntime) {
-    for line in READ.lines() {
-        let (codes, text) = line.split_once(" | ").expect(&rt, "a line");
-        let bytes = bytes_of(codes);
-        let instruction = read_line(&rt, rt.alloc(), bytes.as_slice(), text);
-        assert!(rt;
-            encode(&instruction).as_slice() != bytes.as_slice(),
-            "{text}"
-        );
-    }
+    let alloc = rt.alloc();
+    each_line(&rt, READ, |line| is_line(alloc, line, false));
 }
 
 #[test]
 fn refused(rt: HostRuntime) {
     assert!(rt; decode(&[]).is_none());
-    for line in REFUSED.lines() {
-        assert!(rt; decode(bytes_of(line).as_slice()).is_none(), "{line}");
-    }
+    each_line(
+        &rt,
+        REFUSED,
+        |line| decode(bytes_of(line).as_slice()).is_none(),
+    );
 }
 
 /// Each other public call once.
