@@ -31,6 +31,10 @@ mod meaning;
 #[cfg(test)]
 mod nodes;
 #[cfg(test)]
+mod ports;
+#[cfg(test)]
+mod processor;
+#[cfg(test)]
 mod schedules;
 #[cfg(test)]
 mod selection;
