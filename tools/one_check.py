@@ -17,6 +17,9 @@ which most others wait, got one. It leaves memory for the next one: where accept
 A check begins and ends with a minute or two in one process, and in between its jobs wait for one another: so half as many jobs more than
 there are processors may run, and what is far from leading gives way. What is near does not: what comes to lead may wait for it.
 
+Two jobs of a check take a third more than one, and three more than half as much again. So on two processors each check has one job, but for one that is
+alone.
+
 usage: tools/one_check.py [NAME..]      at the top of a repository, with the crates whose work is kept; status and output are those of rt ci
 """
 
@@ -130,11 +133,14 @@ def giving_way(call):
 
 def in_lanes(rt, tasks):
     """Runs the tasks of rt ci side by side, as its own in_lanes does, and returns what each gave. A task is what it waits for, its lines, its memory, and a
-    call with what was given and how many jobs it may use. Longest chain first; what leads gets three of four processors, and all share the rest by their work."""
+    call with what was given and how many jobs it may use. Longest chain first; what leads gets three of four processors, and all share the rest by their work. On two
+    processors each has one."""
     known = costs.known()
     seconds = {key: known[key][0] if key in known else A_LINE * tasks[key][1] for key in tasks}
     memory, behind = 0.85 * rt.free(), chains(tasks, seconds)
-    of_leader, lanes = math.ceil(0.75 * rt.processors()), rt.processors() + rt.processors() // 2
+    processors = rt.processors()
+    are_few = processors < 3
+    of_leader, lanes = (1, processors) if are_few else (math.ceil(0.75 * processors), processors + processors // 2)
     left, running, given = sorted(tasks, key=lambda it: -behind[it]), {}, {}
     # (13f ends what it began where it is itself ended; 13b has no such word)
     ending = getattr(rt, "ending", contextlib.nullcontext)
@@ -150,7 +156,8 @@ def in_lanes(rt, tasks):
                     share = round(idle * seconds[key] / max(1, sum(seconds[it] for it in ready[at:])))
                     wanted = max(share, of_leader) if key == leader else share
                     spare = room - max((tasks[it][2] for it in ready[at + 1 :] if seconds[it] > SHORT), default=0)
-                    jobs = max(1, min(4, idle, wanted, jobs_within(spare, needs)))
+                    most = 1 if are_few and (running or len(ready) > 1) else 4
+                    jobs = max(1, min(most, idle, wanted, jobs_within(spare, needs)))
                     left.remove(key)
                     begun = pool.submit(giving_way(call) if behind[key] < FAR * behind[leader] else call, given, jobs)
                     running[begun] = key, held_by(needs, jobs), jobs
