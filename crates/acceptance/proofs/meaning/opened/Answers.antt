@@ -1,4 +1,4 @@
-use Rattle.std.proofs.Common.{◌≡◌, subst}
+use Rattle.std.proofs.Common.{subst}
 use Rattle.plm_decl.specs.Placement.{IsPlacement, sizes_of}
 use Rattle.acceptance.proofs.meaning.opened.Goals as goal
 
