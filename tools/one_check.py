@@ -17,8 +17,7 @@ which most others wait, got one. It leaves memory for the next one: where accept
 A check begins and ends with a minute or two in one process, and in between its jobs wait for one another: so half as many jobs more than
 there are processors may run, and what is far from leading gives way. What is near does not: what comes to lead may wait for it.
 
-Two jobs of a check take a third more than one, and three more than half as much again. So on two processors each check has one job, but for one that is
-alone.
+Several jobs of a check take more than one in all, of plm_token a third to a half. So on two processors each check has one job, but for one that is alone.
 
 usage: tools/one_check.py [NAME..]      at the top of a repository, with the crates whose work is kept; status and output are those of rt ci
 """
