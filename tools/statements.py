@@ -1,9 +1,12 @@
 """What a proof rests on of a crate's files: all that is read of them, for its own proofs, and what they state, for those of the crates above.
 
 Both are lists of texts, a file's each, of the tokens as the prover reads them, which have no comments and no layout.
+
+What a crate states has no functions that it keeps to itself, and no imports that nothing else there names: no proof of a crate above can cite either.
 """
 
 import enum
+import json
 import re
 
 import kit
@@ -17,7 +20,7 @@ def read(folder, files):
     """Returns the tokens of each file. Where one of the files cannot be read each has its text as its only token."""
     ran, said = kit.run([kit.rattle(), "fmt", "--tokens", *files], folder) if files else (0, "")
     if ran:
-        return [[("Unread", open(f"{folder}/{it}", encoding="utf-8", errors="replace").read())] for it in files]
+        return [[("Unread", json.dumps(open(f"{folder}/{it}", encoding="utf-8", errors="replace").read()))] for it in files]
     found = []
     for row in said.split("\n"):
         if row.startswith("file "):
@@ -69,6 +72,90 @@ def without_derives(tokens):
     return kept
 
 
+def is_attribute(tokens, at):
+    """Returns whether an attribute stands here, of an item or of the file."""
+    return is_code(tokens, at, "#", "[") or is_code(tokens, at, "#", "!", "[")
+
+
+def end_of_head_part(tokens, at):
+    """Returns the place behind an attribute, a `pub` or another word that stands here before an item's own, or this place where none does."""
+    if is_attribute(tokens, at):
+        return end_of(tokens, at + 1 + is_code(tokens, at, "#", "!"))
+    if is_code(tokens, at, "pub", "("):
+        return end_of(tokens, at + 1)
+    return at + any(is_code(tokens, at, it) for it in ("pub", "unsafe", "extern", "async"))
+
+
+def ends_of_trait_impl(tokens, at):
+    """Returns where the block of the impl that begins here opens, and where it ends if it is a trait's: what stands there is called by the trait's name."""
+    opened = body_of(tokens, at)
+    is_of_trait = any(is_code(tokens, it, "for") and not is_code(tokens, it, "for", "<") for it in range(at, opened))
+    return opened, end_of(tokens, opened) if is_of_trait else opened
+
+
+def without_own_functions(tokens):
+    """Returns the tokens without the functions that other crates cannot call, with what stands before them."""
+    kept, at, head, is_public, of_trait = [], 0, 0, False, 0
+    while at < len(tokens):
+        part, item = end_of_head_part(tokens, at), item_at(tokens, at)
+        if part > at:
+            is_public = is_public or is_code(tokens, at, "pub") and not is_code(tokens, at, "pub", "(")
+            kept, at = kept + tokens[at:part], part
+            continue
+        end = at + 1 if item is Item.NEITHER else end_of(tokens, body_of(tokens, at))
+        if is_code(tokens, at, "impl"):
+            end, of_trait = ends_of_trait_impl(tokens, at)
+            of_trait = max(of_trait, end)
+        if item is Item.FUNCTION and not is_public and at >= of_trait:
+            kept = kept[:head]
+        else:
+            kept = kept + tokens[at:end]
+        at, head, is_public = end, len(kept), False
+    return kept
+
+
+def leaves(texts, path=""):
+    """Returns the paths that an import's texts name, each with the name that it gives."""
+    for at, text in enumerate(texts):
+        if text == "{":
+            parts, depth = [[]], 0
+            for it in texts[at + 1 : -1]:
+                depth += (it == "{") - (it == "}")
+                if it == "," and not depth:
+                    parts.append([])
+                else:
+                    parts[-1].append(it)
+            return [leaf for it in parts if it for leaf in leaves(it, path)]
+        if text == "as":
+            return [(path, texts[at + 1])]
+        path += text
+    return [(path, re.split(r"::|\.", path.removesuffix("::self"))[-1])]
+
+
+def imports_of(tokens):
+    """Returns the tokens without those imports that are not handed on, and what these import: paths, with the names that they give."""
+    kept, found, at = [], [], 0
+    while at < len(tokens):
+        is_ghost = is_code(tokens, at, "ghost") and at + 1 < len(tokens) and tokens[at + 1][1] == '"use"'
+        begins = at + is_ghost
+        if not is_ghost and not is_code(tokens, at, "use") or kept and kept[-1] in ((CODE, '"pub"'), (CODE, '")"')):
+            kept.append(tokens[at])
+            at += 1
+            continue
+        end = next(it for it in range(begins, len(tokens)) if is_code(tokens, it, ";"))
+        found += leaves([json.loads(text) for _, text in tokens[begins + 1 : end]])
+        at = end + 1
+    return kept, found
+
+
+def without_idle_imports(tokens):
+    """Returns the tokens without the imports of names that nothing else there has. A name with signs, as an operator's, may stand apart there: its import stays."""
+    kept, found = imports_of(tokens)
+    words = {it for _, text in kept for it in re.findall(r"[\w+'-]+", json.loads(text))}
+    used = sorted({f"{path} as {name}" for path, name in found if name in words or not re.fullmatch(r"[\w+'-]+", name)})
+    return [("Import", json.dumps(it)) for it in used] + kept
+
+
 class Item(enum.Enum):
     """What begins at a token: a function whose body nobody else reads, an item whose body others may read, or neither."""
 
@@ -114,4 +201,4 @@ def whole(folder, files):
 
 def stated(folder, files):
     """Returns what the proofs of crates above can rest on of these files."""
-    return [told(without_bodies(without_derives(it))) for it in read(folder, files)]
+    return [told(without_idle_imports(without_bodies(without_own_functions(without_derives(it))))) for it in read(folder, files)]
