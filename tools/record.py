@@ -44,8 +44,6 @@ class Digests:
         if (name, parts) not in self.made:
             folder = self.repository.folder(name)
             files = sorted(os.path.relpath(f"{at}/{it}", folder) for part in parts for at, _, names in os.walk(f"{folder}/{part}") for it in names)
-            # (what stands in specs/Inner is cited by no crate above, which tests/rooms sees to)
-            files = [it for it in files if read is not statements.stated or not it.startswith("specs/Inner")]
             rows = [it for it in text_of(f"{self.repository.top}/crates.txt").split("\n") if re.split(r"[ :]", it)[0] == name]
             self.made[name, parts] = digest(*rows, *map(self.statements, self.repository.deps[name]), *files, *read(folder, files))
         return self.made[name, parts]

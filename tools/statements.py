@@ -3,6 +3,7 @@
 Both are lists of texts, a file's each, of the tokens as the prover reads them, which have no comments and no layout.
 
 What a crate states has no functions that it keeps to itself, and no imports that nothing else there names: no proof of a crate above can cite either.
+It has all of specs/, the files of Inner too, since the invariant of a type for others may name a definition there.
 """
 
 import enum
@@ -86,8 +87,8 @@ def end_of_head_part(tokens, at):
     return at + any(is_code(tokens, at, it) for it in ("pub", "unsafe", "extern", "async"))
 
 
-def ends_of_trait_impl(tokens, at):
-    """Returns where the block of the impl that begins here opens, and where it ends if it is a trait's: what stands there is called by the trait's name."""
+def block_of_impl(tokens, at):
+    """Returns where the block of the impl that begins here opens, and up to where its functions are called by a trait's name: the block's end, or where it opens if it is no trait's."""
     opened = body_of(tokens, at)
     is_of_trait = any(is_code(tokens, it, "for") and not is_code(tokens, it, "for", "<") for it in range(at, opened))
     return opened, end_of(tokens, opened) if is_of_trait else opened
@@ -104,8 +105,7 @@ def without_own_functions(tokens):
             continue
         end = at + 1 if item is Item.NEITHER else end_of(tokens, body_of(tokens, at))
         if is_code(tokens, at, "impl"):
-            end, of_trait = ends_of_trait_impl(tokens, at)
-            of_trait = max(of_trait, end)
+            end, of_trait = block_of_impl(tokens, at)
         if item is Item.FUNCTION and not is_public and at >= of_trait:
             kept = kept[:head]
         else:
