@@ -17,7 +17,8 @@ which most others wait, got one. It leaves memory for the next one: where accept
 A check begins and ends with a minute or two in one process, and in between its jobs wait for one another: so half as many jobs more than
 there are processors may run, and what is far from leading gives way. What is near does not: what comes to lead may wait for it.
 
-Several jobs of a check take more than one in all, of plm_token a third to a half. So on two processors each check has one job, but for one that is alone.
+Several jobs of a check take more than one in all, of plm_token a third to a half. So on two processors each check has one job, but for the one with the longest
+chain behind it where what else there is to do takes less time than it does: else a processor would wait for it.
 
 usage: tools/one_check.py [NAME..]      at the top of a repository, with the crates whose work is kept; status and output are those of rt ci
 """
@@ -106,6 +107,11 @@ def chains(tasks, seconds):
     return behind
 
 
+def beside(tasks, seconds, key):
+    """Returns how long those of these tasks take that do not wait for this one."""
+    return sum(seconds[it] for it in tasks if it != key and key not in tasks[it][0])
+
+
 def held_by(needs, jobs):
     """Returns what a check holds of memory with so many jobs, which holds this with one."""
     return needs * (1 + A_JOB * max(0, jobs - 2))
@@ -133,13 +139,13 @@ def giving_way(call):
 def in_lanes(rt, tasks):
     """Runs the tasks of rt ci side by side, as its own in_lanes does, and returns what each gave. A task is what it waits for, its lines, its memory, and a
     call with what was given and how many jobs it may use. Longest chain first; what leads gets three of four processors, and all share the rest by their work. On two
-    processors each has one."""
+    processors two run at a time, each with one job, but what leads with two where the others would not keep the second processor busy."""
     known = costs.known()
     seconds = {key: known[key][0] if key in known else A_LINE * tasks[key][1] for key in tasks}
     memory, behind = 0.85 * rt.free(), chains(tasks, seconds)
     processors = rt.processors()
     are_few = processors < 3
-    of_leader, lanes = (1, processors) if are_few else (math.ceil(0.75 * processors), processors + processors // 2)
+    of_leader, lanes = math.ceil(0.75 * processors), processors + processors // 2
     left, running, given = sorted(tasks, key=lambda it: -behind[it]), {}, {}
     # (13f ends what it began where it is itself ended; 13b has no such word)
     ending = getattr(rt, "ending", contextlib.nullcontext)
@@ -149,13 +155,15 @@ def in_lanes(rt, tasks):
             ready = [it for it in left if all(below in given for below in tasks[it][0])]
             for at, key in enumerate(ready):
                 _, _, needs, call = tasks[key]
-                idle = lanes - sum(jobs for _, _, jobs in running.values())
+                idle = 0 if are_few and len(running) >= processors else lanes - sum(jobs for _, _, jobs in running.values())
                 room = memory - sum(held for _, held, _ in running.values())
                 if idle > 0 and (not running or needs <= room):
                     share = round(idle * seconds[key] / max(1, sum(seconds[it] for it in ready[at:])))
                     wanted = max(share, of_leader) if key == leader else share
                     spare = room - max((tasks[it][2] for it in ready[at + 1 :] if seconds[it] > SHORT), default=0)
-                    most = 1 if are_few and (running or len(ready) > 1) else 4
+                    undone = {it: tasks[it] for it in tasks if it not in given}
+                    is_spread = not are_few or key == leader and beside(undone, seconds, key) < seconds[key]
+                    most = min(4, processors) if is_spread else 1
                     jobs = max(1, min(most, idle, wanted, jobs_within(spare, needs)))
                     left.remove(key)
                     begun = pool.submit(giving_way(call) if behind[key] < FAR * behind[leader] else call, given, jobs)
