@@ -3,18 +3,19 @@
 mod text;
 mod vectors;
 
-use self::text::Text;
+use self::text::has_text;
 use self::vectors::{READ, REFUSED, WRITTEN};
 use arrayvec::ArrayVec;
 use i86_code::{Form, decode, encode, instruction_fits, one_form, round_trip};
 use i86_table::Instr;
-use std::alloc::Global;
 use std::process::Abort;
 
+/// The value of a hexadecimal digit.
 fn digit(byte: u8) -> Option<u8> {
     match byte {
         b'0'..=b'9' => Some(byte - b'0'),
         b'A'..=b'F' => Some(byte - b'A' + 10),
+        b'a'..=b'f' => Some(byte - b'a' + 10),
         _ => None,
     }
 }
@@ -39,29 +40,21 @@ fn bytes_of(codes: &str) -> ArrayVec<u8, 8> {
     bytes
 }
 
-/// Whether this is an instruction's text.
-fn has_text(alloc: Global, instruction: Instr, text: &str) -> bool {
-    match format!(in alloc; "{}", Text(instruction)) {
-        Ok(found) => found.as_str() == text,
-        Err(_) => false,
-    }
-}
-
 /// Whether the bytes are read, whole, as an instruction of this text, and whether they are what is written for it.
-fn is_read(alloc: Global, bytes: &[u8], text: &str, is_written: bool) -> bool {
+fn is_read(bytes: &[u8], text: &str, is_written: bool) -> bool {
     let Some((instruction, length)) = decode(bytes) else {
         return false;
     };
     round_trip(instruction, bytes);
     length == bytes.len()
-        && has_text(alloc, instruction, text)
+        && has_text(instruction, text)
         && (encode(&instruction).as_slice() == bytes) == is_written
 }
 
 /// The same for a line, of bytes and a text.
-fn is_line(alloc: Global, line: &str, is_written: bool) -> bool {
+fn is_line(line: &str, is_written: bool) -> bool {
     match line.split_once(" | ") {
-        Some((codes, text)) => is_read(alloc, bytes_of(codes).as_slice(), text, is_written),
+        Some((codes, text)) => is_read(bytes_of(codes).as_slice(), text, is_written),
         None => false,
     }
 }
@@ -78,16 +71,14 @@ fn each_line<F: Fn(&str) -> bool>(rt: &impl Abort, lines: &str, holds: F)
 /// Each text's bytes are read so and written for it.
 #[test]
 fn written(rt: HostRuntime) {
-    let alloc = rt.alloc();
-    each_line(&rt, WRITTEN, |line| is_line(alloc, line, true));
+    each_line(&rt, WRITTEN, |line| is_line(line, true));
     assert!(rt; WRITTEN.lines().count() > 200);
 }
 
 /// Longer and other spellings are read as the text too.
 #[test]
 fn read(rt: HostRuntime) {
-    let alloc = rt.alloc();
-    each_line(&rt, READ, |line| is_line(alloc, line, false));
+    each_line(&rt, READ, |line| is_line(line, false));
 }
 
 #[test]

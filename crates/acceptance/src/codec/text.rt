@@ -1,16 +1,43 @@
-//! Instructions as NASM writes them.
+//! Texts of instructions as NASM writes them, read beside the instruction that they are to be of.
 
+use crate::codec::digit;
 use i86_table::{
     Address, AluOperation, Base, Condition, Count, Instr, LoadableSegment, Memory, Operands, Port,
     Register8, Register16, Repeat, RmOperand, Segment, ShiftOperation, Signedness, TestMask,
     UnaryOperation, sign_extended,
 };
-use std::fmt;
 use word86::Width;
 
-/// A part of an instruction, to be written as NASM reads it.
-#[derive(Clone, Copy)]
-pub struct Text<T>(pub T);
+/// A text as far as it is not read yet, and whether all that was wanted so far stood there.
+#[derive(Drop)]
+pub(crate) struct Reading<'t> {
+    left: &'t [u8],
+    holds: bool,
+}
+
+impl Reading<'_> {
+    fn word(&mut self, word: &str) {
+        match self.left.strip_prefix(word.as_bytes()) {
+            Some(left) => self.left = left,
+            None => self.holds = false,
+        }
+    }
+
+    /// A number, as hexadecimal digits behind 0x.
+    fn number(&mut self, number: u32) {
+        self.word("0x");
+        let (mut value, mut count): (u32, usize) = (0, 0);
+        for byte in self.left {
+            let Some(digit) = digit(*byte) else {
+                break;
+            };
+            value = value.wrapping_mul(16).wrapping_add(u32::from(digit));
+            count = count.wrapping_add(1);
+        }
+        self.left = self.left.get(count..).unwrap_or(b"");
+        self.holds = self.holds && count > 0 && value == number;
+    }
+}
 
 /// A register with a name of its own, and the size of what it holds.
 trait Named: Copy {
@@ -150,74 +177,70 @@ fn accumulator(width: Width) -> &'static str {
     }
 }
 
-fn write_address<W: fmt::Write>(address: Address, f: &mut fmt::Formatter<W>) -> fmt::Result {
+fn read_address(address: Address, text: &mut Reading<'_>) {
     match address {
-        Address::Direct(offset) => write!(f, "0x{offset:x}"),
+        Address::Direct(offset) => text.number(u32::from(offset)),
         Address::Based { base, displacement } => {
-            let name = base_name(base).0;
-            if displacement == 0 && !matches!(base, Base::Bp) {
-                write!(f, "{name}")
-            } else if displacement < 0x8000 {
-                write!(f, "{name}+0x{displacement:x}")
-            } else {
-                write!(f, "{name}-0x{:x}", 0x10000 - u32::from(displacement))
+            text.word(base_name(base).0);
+            if displacement >= 0x8000 {
+                text.word("-");
+                text.number(0x10000 - u32::from(displacement));
+            } else if displacement > 0 || matches!(base, Base::Bp) {
+                text.word("+");
+                text.number(u32::from(displacement));
             }
         }
     }
 }
 
-fn write_memory<W: fmt::Write>(memory: Memory, f: &mut fmt::Formatter<W>) -> fmt::Result {
+fn read_memory(memory: Memory, text: &mut Reading<'_>) {
     let usual = match memory.address {
         Address::Direct(_) => Segment::Ds,
         Address::Based { base, .. } => base_name(base).1,
     };
-    write!(f, "[")?;
+    text.word("[");
     if memory.segment != usual {
-        write!(f, "{}:", segment_name(memory.segment))?;
+        text.word(segment_name(memory.segment));
+        text.word(":");
     }
-    write_address(memory.address, f)?;
-    write!(f, "]")
+    read_address(memory.address, text);
+    text.word("]");
 }
 
-fn write_place<R: Named, W: fmt::Write>(
-    place: RmOperand<R>,
-    f: &mut fmt::Formatter<W>,
-) -> fmt::Result {
+fn read_place<R: Named>(place: RmOperand<R>, text: &mut Reading<'_>) {
     match place {
-        RmOperand::Register(register) => write!(f, "{}", register.name()),
-        RmOperand::Memory(memory) => write_memory(memory, f),
+        RmOperand::Register(register) => text.word(register.name()),
+        RmOperand::Memory(memory) => read_memory(memory, text),
     }
 }
 
 /// With the size of an operand in memory, which no register tells.
-fn write_sized<R: Named, W: fmt::Write>(
-    place: RmOperand<R>,
-    f: &mut fmt::Formatter<W>,
-) -> fmt::Result {
+fn read_sized<R: Named>(place: RmOperand<R>, text: &mut Reading<'_>) {
     if let RmOperand::Memory(_) = place {
-        write!(f, "{} ", R::SIZE)?;
+        text.word(R::SIZE);
+        text.word(" ");
     }
-    write_place(place, f)
+    read_place(place, text);
 }
 
-fn write_operands<R: Named, W: fmt::Write>(
-    name: &str,
-    operands: Operands<R, u16>,
-    f: &mut fmt::Formatter<W>,
-) -> fmt::Result {
-    write!(f, "{name} ")?;
+fn read_operands<R: Named>(name: &str, operands: Operands<R, u16>, text: &mut Reading<'_>) {
+    text.word(name);
+    text.word(" ");
     match operands {
         Operands::FromRegister(place, register) => {
-            write_place(place, f)?;
-            write!(f, ",{}", register.name())
+            read_place(place, text);
+            text.word(",");
+            text.word(register.name());
         }
         Operands::FromMemory(register, memory) => {
-            write!(f, "{},", register.name())?;
-            write_memory(memory, f)
+            text.word(register.name());
+            text.word(",");
+            read_memory(memory, text);
         }
         Operands::Immediate(place, number) => {
-            write_sized(place, f)?;
-            write!(f, ",0x{number:x}")
+            read_sized(place, text);
+            text.word(",");
+            text.number(u32::from(number));
         }
     }
 }
@@ -231,74 +254,70 @@ fn widened<R>(operands: Operands<R, u8>) -> Operands<R, u16> {
 }
 
 /// An operation on one operand.
-fn write_one<R: Named, W: fmt::Write>(
-    name: &str,
+fn read_one<R: Named>(name: &str, place: RmOperand<R>, text: &mut Reading<'_>) {
+    text.word(name);
+    text.word(" ");
+    read_sized(place, text);
+}
+
+/// A shift of an operand.
+fn read_shift<R: Named>(
+    operation: ShiftOperation,
     place: RmOperand<R>,
-    f: &mut fmt::Formatter<W>,
-) -> fmt::Result {
-    write!(f, "{name} ")?;
-    write_sized(place, f)
+    count: Count,
+    text: &mut Reading<'_>,
+) {
+    read_one(shift_name(operation), place, text);
+    text.word(match count {
+        Count::One => ",1",
+        Count::Cl => ",cl",
+    });
 }
 
-fn write_count<W: fmt::Write>(count: Count, f: &mut fmt::Formatter<W>) -> fmt::Result {
-    match count {
-        Count::One => write!(f, ",1"),
-        Count::Cl => write!(f, ",cl"),
-    }
-}
-
-fn write_port<W: fmt::Write>(port: Port, f: &mut fmt::Formatter<W>) -> fmt::Result {
+fn read_port(port: Port, text: &mut Reading<'_>) {
     match port {
-        Port::Fixed(number) => write!(f, "0x{number:x}"),
-        Port::Dx => write!(f, "dx"),
+        Port::Fixed(number) => text.number(u32::from(number)),
+        Port::Dx => text.word("dx"),
     }
 }
 
 /// A jump by a distance from its end, which is `length` bytes after its begin.
-fn write_jump<W: fmt::Write>(
-    name: &str,
-    distance: u16,
-    length: u16,
-    f: &mut fmt::Formatter<W>,
-) -> fmt::Result {
+fn read_jump(name: &str, distance: u16, length: u16, text: &mut Reading<'_>) {
     let from_begin = distance.wrapping_add(length);
+    text.word(name);
     if from_begin < 0x8000 {
-        write!(f, "{name} $+0x{from_begin:x}")
+        text.word(" $+");
+        text.number(u32::from(from_begin));
     } else {
-        write!(f, "{name} $-0x{:x}", 0x10000 - u32::from(from_begin))
+        text.word(" $-");
+        text.number(0x10000 - u32::from(from_begin));
     }
 }
 
-fn write_string<W: fmt::Write>(
-    name: &str,
-    width: Width,
-    source: Segment,
-    repeat: Repeat,
-    f: &mut fmt::Formatter<W>,
-) -> fmt::Result {
+fn read_string(name: &str, width: Width, source: Segment, repeat: Repeat, text: &mut Reading<'_>) {
     if source != Segment::Ds {
-        write!(f, "{} ", segment_name(source))?;
+        text.word(segment_name(source));
+        text.word(" ");
     }
     if repeat == Repeat::WhileCx {
-        write!(f, "rep ")?;
+        text.word("rep ");
     }
-    write!(f, "{name}{}", letter(width))
+    text.word(name);
+    text.word(letter(width));
 }
 
-fn write_test<R: Named, W: fmt::Write>(
-    place: RmOperand<R>,
-    mask: TestMask<R, u16>,
-    f: &mut fmt::Formatter<W>,
-) -> fmt::Result {
+fn read_test<R: Named>(place: RmOperand<R>, mask: TestMask<R, u16>, text: &mut Reading<'_>) {
     match mask {
         TestMask::Register(register) => {
-            write!(f, "test ")?;
-            write_place(place, f)?;
-            write!(f, ",{}", register.name())
+            text.word("test ");
+            read_place(place, text);
+            text.word(",");
+            text.word(register.name());
         }
         TestMask::Immediate(number) => {
-            write_one("test", place, f)?;
-            write!(f, ",0x{number:x}")
+            read_one("test", place, text);
+            text.word(",");
+            text.number(u32::from(number));
         }
     }
 }
@@ -308,6 +327,13 @@ fn widened_mask<R>(mask: TestMask<R, u8>) -> TestMask<R, u16> {
         TestMask::Register(register) => TestMask::Register(register),
         TestMask::Immediate(number) => TestMask::Immediate(u16::from(number)),
     }
+}
+
+/// An exchange, whose first operand is a register.
+fn read_exchange(register: &str, text: &mut Reading<'_>) {
+    text.word("xchg ");
+    text.word(register);
+    text.word(",");
 }
 
 /// The instructions that are one word.
@@ -332,121 +358,147 @@ fn word_of(instruction: Instr) -> &'static str {
 }
 
 /// Jumps, calls and returns, and what is one word.
-fn write_control<W: fmt::Write>(instruction: Instr, f: &mut fmt::Formatter<W>) -> fmt::Result {
+fn read_control(instruction: Instr, text: &mut Reading<'_>) {
     match instruction {
         Instr::JumpIf(condition, distance) => {
-            write!(f, "{} ", condition_name(condition))?;
-            write_jump("short", sign_extended(distance), 2, f)
+            text.word(condition_name(condition));
+            read_jump(" short", sign_extended(distance), 2, text);
         }
-        Instr::Loop(distance) => write_jump("loop", sign_extended(distance), 2, f),
-        Instr::JumpIfCxZero(distance) => write_jump("jcxz", sign_extended(distance), 2, f),
-        Instr::JumpShort(distance) => write_jump("jmp short", sign_extended(distance), 2, f),
-        Instr::Jump(distance) => write_jump("jmp near", distance, 3, f),
-        Instr::Call(distance) => write_jump("call", distance, 3, f),
-        Instr::JumpTo(place) => write_one("jmp", place, f),
-        Instr::CallTo(place) => write_one("call", place, f),
-        Instr::JumpFar { offset, segment } => write!(f, "jmp 0x{segment:x}:0x{offset:x}"),
-        Instr::ReturnDropping(bytes) => write!(f, "ret 0x{bytes:x}"),
-        _ => write!(f, "{}", word_of(instruction)),
+        Instr::Loop(distance) => read_jump("loop", sign_extended(distance), 2, text),
+        Instr::JumpIfCxZero(distance) => read_jump("jcxz", sign_extended(distance), 2, text),
+        Instr::JumpShort(distance) => read_jump("jmp short", sign_extended(distance), 2, text),
+        Instr::Jump(distance) => read_jump("jmp near", distance, 3, text),
+        Instr::Call(distance) => read_jump("call", distance, 3, text),
+        Instr::JumpTo(place) => read_one("jmp", place, text),
+        Instr::CallTo(place) => read_one("call", place, text),
+        Instr::JumpFar { offset, segment } => {
+            text.word("jmp ");
+            text.number(u32::from(segment));
+            text.word(":");
+            text.number(u32::from(offset));
+        }
+        Instr::ReturnDropping(bytes) => {
+            text.word("ret ");
+            text.number(u32::from(bytes));
+        }
+        _ => text.word(word_of(instruction)),
     }
 }
 
 /// The stack, strings and ports.
-fn write_stack<W: fmt::Write>(instruction: Instr, f: &mut fmt::Formatter<W>) -> fmt::Result {
+fn read_stack(instruction: Instr, text: &mut Reading<'_>) {
     match instruction {
-        Instr::Push(place) => write_one("push", place, f),
-        Instr::Pop(place) => write_one("pop", place, f),
-        Instr::PushSegment(segment) => write!(f, "push {}", segment_name(segment)),
-        Instr::PopSegment(segment) => write!(f, "pop {}", segment_name(segment.segment())),
+        Instr::Push(place) => read_one("push", place, text),
+        Instr::Pop(place) => read_one("pop", place, text),
+        Instr::PushSegment(segment) => {
+            text.word("push ");
+            text.word(segment_name(segment));
+        }
+        Instr::PopSegment(segment) => {
+            text.word("pop ");
+            text.word(segment_name(segment.segment()));
+        }
         Instr::MoveString {
             width,
             source,
             repeat,
-        } => write_string("movs", width, source, repeat, f),
+        } => read_string("movs", width, source, repeat, text),
         Instr::StoreString { width, repeat } => {
-            write_string("stos", width, Segment::Ds, repeat, f)
+            read_string("stos", width, Segment::Ds, repeat, text);
         }
         Instr::In(width, port) => {
-            write!(f, "in {},", accumulator(width))?;
-            write_port(port, f)
+            text.word("in ");
+            text.word(accumulator(width));
+            text.word(",");
+            read_port(port, text);
         }
         Instr::Out(width, port) => {
-            write!(f, "out ")?;
-            write_port(port, f)?;
-            write!(f, ",{}", accumulator(width))
+            text.word("out ");
+            read_port(port, text);
+            text.word(",");
+            text.word(accumulator(width));
         }
-        other => write_control(other, f),
+        other => read_control(other, text),
     }
 }
 
 /// What stands between segments, registers and memory.
-fn write_move<W: fmt::Write>(instruction: Instr, f: &mut fmt::Formatter<W>) -> fmt::Result {
+fn read_move(instruction: Instr, text: &mut Reading<'_>) {
     match instruction {
         Instr::MoveFromSegment(place, segment) => {
-            write!(f, "mov ")?;
-            write_place(place, f)?;
-            write!(f, ",{}", segment_name(segment))
+            text.word("mov ");
+            read_place(place, text);
+            text.word(",");
+            text.word(segment_name(segment));
         }
         Instr::MoveToSegment(segment, place) => {
-            write!(f, "mov {},", segment_name(segment.segment()))?;
-            write_place(place, f)
+            text.word("mov ");
+            text.word(segment_name(segment.segment()));
+            text.word(",");
+            read_place(place, text);
         }
         Instr::LoadAddress(register, address) => {
-            write!(f, "lea {},[", register.name())?;
-            write_address(address, f)?;
-            write!(f, "]")
+            text.word("lea ");
+            text.word(register.name());
+            text.word(",[");
+            read_address(address, text);
+            text.word("]");
         }
         Instr::ExchangeBytes(pair) => {
-            write!(f, "xchg {},{}", pair.first.name(), pair.second.name())
+            read_exchange(pair.first.name(), text);
+            text.word(pair.second.name());
         }
         Instr::ExchangeWords(pair) => {
-            write!(f, "xchg {},{}", pair.first.name(), pair.second.name())
+            read_exchange(pair.first.name(), text);
+            text.word(pair.second.name());
         }
         Instr::ExchangeMemoryByte(register, memory) => {
-            write!(f, "xchg {},", register.name())?;
-            write_memory(memory, f)
+            read_exchange(register.name(), text);
+            read_memory(memory, text);
         }
         Instr::ExchangeMemoryWord(register, memory) => {
-            write!(f, "xchg {},", register.name())?;
-            write_memory(memory, f)
+            read_exchange(register.name(), text);
+            read_memory(memory, text);
         }
-        other => write_stack(other, f),
+        other => read_stack(other, text),
     }
 }
 
 /// Shifts, products and quotients.
-fn write_product<W: fmt::Write>(instruction: Instr, f: &mut fmt::Formatter<W>) -> fmt::Result {
+fn read_product(instruction: Instr, text: &mut Reading<'_>) {
     match instruction {
-        Instr::ShiftByte(operation, place, count) => {
-            write_one(shift_name(operation), place, f)?;
-            write_count(count, f)
-        }
-        Instr::ShiftWord(operation, place, count) => {
-            write_one(shift_name(operation), place, f)?;
-            write_count(count, f)
-        }
-        Instr::MultiplyByte(sign, place) => write_one(signed_or(sign, "mul", "imul"), place, f),
-        Instr::MultiplyWord(sign, place) => write_one(signed_or(sign, "mul", "imul"), place, f),
-        Instr::DivideByte(sign, place) => write_one(signed_or(sign, "div", "idiv"), place, f),
-        Instr::DivideWord(sign, place) => write_one(signed_or(sign, "div", "idiv"), place, f),
-        other => write_move(other, f),
+        Instr::ShiftByte(operation, place, count) => read_shift(operation, place, count, text),
+        Instr::ShiftWord(operation, place, count) => read_shift(operation, place, count, text),
+        Instr::MultiplyByte(sign, place) => read_one(signed_or(sign, "mul", "imul"), place, text),
+        Instr::MultiplyWord(sign, place) => read_one(signed_or(sign, "mul", "imul"), place, text),
+        Instr::DivideByte(sign, place) => read_one(signed_or(sign, "div", "idiv"), place, text),
+        Instr::DivideWord(sign, place) => read_one(signed_or(sign, "div", "idiv"), place, text),
+        other => read_move(other, text),
     }
 }
 
-impl fmt::Display for Text<Instr> {
-    fn fmt<W: fmt::Write>(&self, f: &mut fmt::Formatter<W>) -> fmt::Result {
-        match self.0 {
-            Instr::AluByte(operation, operands) => {
-                write_operands(alu_name(operation), widened(operands), f)
-            }
-            Instr::AluWord(operation, operands) => write_operands(alu_name(operation), operands, f),
-            Instr::MoveByte(operands) => write_operands("mov", widened(operands), f),
-            Instr::MoveWord(operands) => write_operands("mov", operands, f),
-            Instr::UnaryByte(operation, place) => write_one(unary_name(operation), place, f),
-            Instr::UnaryWord(operation, place) => write_one(unary_name(operation), place, f),
-            Instr::TestByte(place, mask) => write_test(place, widened_mask(mask), f),
-            Instr::TestWord(place, mask) => write_test(place, mask, f),
-            other => write_product(other, f),
+fn read(instruction: Instr, text: &mut Reading<'_>) {
+    match instruction {
+        Instr::AluByte(operation, operands) => {
+            read_operands(alu_name(operation), widened(operands), text);
         }
+        Instr::AluWord(operation, operands) => read_operands(alu_name(operation), operands, text),
+        Instr::MoveByte(operands) => read_operands("mov", widened(operands), text),
+        Instr::MoveWord(operands) => read_operands("mov", operands, text),
+        Instr::UnaryByte(operation, place) => read_one(unary_name(operation), place, text),
+        Instr::UnaryWord(operation, place) => read_one(unary_name(operation), place, text),
+        Instr::TestByte(place, mask) => read_test(place, widened_mask(mask), text),
+        Instr::TestWord(place, mask) => read_test(place, mask, text),
+        other => read_product(other, text),
     }
+}
+
+/// Whether this is an instruction's text.
+pub(crate) fn has_text(instruction: Instr, text: &str) -> bool {
+    let mut reading = Reading {
+        left: text.as_bytes(),
+        holds: true,
+    };
+    read(instruction, &mut reading);
+    reading.holds && reading.left.is_empty()
 }
