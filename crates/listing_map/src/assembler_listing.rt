@@ -11,6 +11,8 @@ ghost use Rattle.std.specs.Prelude.{◌≡◌, ◌≤◌, ◌++◌, ℕ, List, l
 ghost use Rattle.listing_map.specs.ProgramMap.{map_text};
 
 use crate::collected::Collected;
+use crate::noted::Noted;
+use crate::numerals::{hex_address, hex_byte, hex_low_word};
 use crate::program_map::map;
 use crate::routines::{path_of, procedure_path, routines_of};
 use crate::source_listing::first_line;
@@ -19,6 +21,7 @@ use crate::texts::NamedText;
 use i86_code::decode;
 use i86_table::Instr;
 use icode::{Code, Instruction, Routine};
+use itoa::Buffer;
 use layout_link::{Image, RESET, start_up_room};
 use marks::{Mark, Sort, marks_of, sort_of};
 use mnemonics::{put_instruction, put_number};
@@ -114,21 +117,15 @@ fn declared_at(names: &Names, routine: Routine) -> (usize, Option<u32>) {
     }
 }
 
-/// Adds blanks behind a text that has so many columns, up to the column of the next one.
-fn put_blanks(text: &mut Vec<u8>, columns: usize) -> Result<(), AllocError> {
-    for _column in columns..BYTES_WIDTH {
-        text.push(b' ')?;
-    }
-    Ok(())
-}
-
-/// Adds bytes in hexadecimal, and blanks.
-fn put_bytes(alloc: Global, text: &mut Vec<u8>, bytes: &[u8]) -> Result<(), AllocError> {
+/// Adds bytes in hexadecimal, and blanks up to the column of the next one.
+fn put_bytes(text: &mut Noted<u8>, bytes: &[u8]) {
     for byte in bytes {
-        let digits = format!(in alloc; " {byte:02X}")?;
-        text.extend_from_slice(digits.as_str().as_bytes())?;
+        text.add(b' ');
+        text.put(&hex_byte(*byte));
     }
-    put_blanks(text, bytes.len().saturating_mul(3))
+    for _column in bytes.len().saturating_mul(3)..BYTES_WIDTH {
+        text.add(b' ');
+    }
 }
 
 /// The lines of a text.
@@ -177,69 +174,55 @@ impl Listed<'_> {
     }
 
     /// Adds an address and bytes.
-    fn put_front(self, text: &mut Vec<u8>, from: usize, bytes: &[u8]) -> Result<(), AllocError> {
-        let address = self.address(from);
-        let digits = format!(in self.alloc; "{address:05X} ")?;
-        text.extend_from_slice(digits.as_str().as_bytes())?;
-        put_bytes(self.alloc, text, bytes)
+    fn put_front(self, text: &mut Noted<u8>, from: usize, bytes: &[u8]) {
+        text.put(&hex_address(self.address(from)));
+        text.add(b' ');
+        put_bytes(text, bytes);
     }
 
     /// Adds a line for an instruction at the front of some bytes that begin here, or for one byte that is none, and answers how many bytes it
     /// has.
-    fn put_line(self, text: &mut Vec<u8>, from: usize, to: usize) -> Result<usize, AllocError> {
+    fn put_line(self, text: &mut Noted<u8>, from: usize, to: usize) -> usize {
         let bytes = stretch(self.rom, from, to);
         let Some((instruction, length)) = front(bytes) else {
-            self.put_front(text, from, stretch(bytes, 0, 1))?;
-            text.extend_from_slice(b"DB\n")?;
-            return Ok(1);
+            self.put_front(text, from, stretch(bytes, 0, 1));
+            text.put(b"DB\n");
+            return 1;
         };
-        self.put_front(text, from, stretch(bytes, 0, length))?;
+        self.put_front(text, from, stretch(bytes, 0, length));
         let next = self.address(from.saturating_add(length)) % 0x1_0000;
-        put_instruction(self.alloc, text, instruction, next as u16)?;
-        text.push(b'\n')?;
-        Ok(length)
+        put_instruction(text, instruction, next as u16);
+        text.add(b'\n');
+        length
     }
 
     /// Adds a line for each instruction from one place up to another.
-    fn put_instructions(
-        self,
-        text: &mut Vec<u8>,
-        from: usize,
-        to: usize,
-    ) -> Result<(), AllocError> {
+    fn put_instructions(self, text: &mut Noted<u8>, from: usize, to: usize) {
         let mut at = from;
         for _instruction in from..to {
             if at >= to {
-                return Ok(());
+                return;
             }
-            let length = self.put_line(text, at, to)?;
+            let length = self.put_line(text, at, to);
             at = at.saturating_add(length);
         }
-        Ok(())
     }
 
     /// Adds the line of a word of a table: where a case begins.
-    fn put_word(self, text: &mut Vec<u8>, from: usize, to: usize) -> Result<(), AllocError> {
+    fn put_word(self, text: &mut Noted<u8>, from: usize, to: usize) {
         let bytes = stretch(self.rom, from, to);
-        self.put_front(text, from, bytes)?;
+        self.put_front(text, from, bytes);
         let word = match bytes {
             [low, high, ..] => u16::from_le_bytes([*low, *high]),
             [_] | [] => 0,
         };
-        text.extend_from_slice(b"DW ")?;
-        put_number(self.alloc, text, word, Width::Word)?;
-        text.push(b'\n')?;
-        Ok(())
+        text.put(b"DW ");
+        put_number(text, word, Width::Word);
+        text.add(b'\n');
     }
 
     /// Adds what an instruction of the intermediate code stands for.
-    fn put_row(
-        self,
-        text: &mut Vec<u8>,
-        instruction: Instruction,
-        from: usize,
-        to: usize,
-    ) -> Result<(), AllocError> {
+    fn put_row(self, text: &mut Noted<u8>, instruction: Instruction, from: usize, to: usize) {
         match sort_of(instruction) {
             Sort::Case => self.put_word(text, from, to),
             Sort::Store
@@ -264,9 +247,10 @@ impl Listed<'_> {
         let places = rows.of(self.alloc, routine)?;
         let (module, line) = declared_at(self.names, routine);
         let statements = statements_of(self.names, routine);
-        let mut endless = Vec::new(self.alloc);
-        note_all(typed_of(program, routine), &mut endless)?;
-        let marks = marks_of(statements, &endless, instructions, Vec::new(self.alloc))?;
+        let mut noted = Noted::new(self.alloc);
+        note_all(typed_of(program, routine), &mut noted);
+        let endless = noted.whole()?;
+        let marks = marks_of(statements, &endless, instructions, Noted::new(self.alloc))?;
         Ok(Section {
             routine,
             begin,
@@ -292,55 +276,48 @@ impl Listed<'_> {
     }
 
     /// Adds the line of a part: where it begins, how many bytes it has, and what it is called.
-    fn put_name(self, text: &mut Vec<u8>, section: &Section) -> Result<(), AllocError> {
-        let address = self.address(section.begin);
+    fn put_name(self, text: &mut Noted<u8>, section: &Section) {
         let size = section.end().saturating_sub(section.begin);
-        let words = format!(in self.alloc; "CODE {address:05X} {size:04X} ")?;
-        text.extend_from_slice(words.as_str().as_bytes())?;
-        text.extend_from_slice(path_of(self.names, section.routine))?;
-        text.push(b'\n')?;
-        Ok(())
+        text.put(b"CODE ");
+        text.put(&hex_address(self.address(section.begin)));
+        text.add(b' ');
+        text.put(&hex_low_word(size as u64));
+        text.add(b' ');
+        text.put(path_of(self.names, section.routine));
+        text.add(b'\n');
     }
 
     /// Adds the names of a way of calls, at most as many as there are procedures.
-    fn put_steps(self, text: &mut Vec<u8>, deeps: &[Deep], way: Way) -> Result<(), AllocError> {
+    fn put_steps(self, text: &mut Noted<u8>, deeps: &[Deep], way: Way) {
         let mut at = way.first;
         for _step in 0..self.code.procedures.len() {
             let Some(number) = at else {
-                return Ok(());
+                return;
             };
-            text.push(b' ')?;
-            text.extend_from_slice(procedure_path(self.names, number))?;
+            text.add(b' ');
+            text.put(procedure_path(self.names, number));
             at = match deeps.get(number) {
                 Some(deep) => deep.next,
                 None => None,
             };
         }
-        Ok(())
     }
 
     /// Adds the line of a way of calls: the bytes of the stack that it takes, and its procedures.
-    fn put_way(
-        self,
-        text: &mut Vec<u8>,
-        deeps: &[Deep],
-        first: &str,
-        way: Way,
-    ) -> Result<(), AllocError> {
-        let bytes = way.bytes;
-        let words = format!(in self.alloc; "CALLS {bytes:04X}{first}")?;
-        text.extend_from_slice(words.as_str().as_bytes())?;
-        self.put_steps(text, deeps, way)?;
-        text.push(b'\n')?;
-        Ok(())
+    fn put_way(self, text: &mut Noted<u8>, deeps: &[Deep], first: &str, way: Way) {
+        text.put(b"CALLS ");
+        text.put(&hex_low_word(way.bytes));
+        text.put(first.as_bytes());
+        self.put_steps(text, deeps, way);
+        text.add(b'\n');
     }
 
     /// Adds the deepest ways of calls: from main on, and from each interrupt on that a procedure serves.
-    fn put_ways(self, text: &mut Vec<u8>) -> Result<(), Fault> {
+    fn put_ways(self, text: &mut Noted<u8>) -> Result<(), Fault> {
         let deeps = deeps_of(self.alloc, self.code)?;
-        self.put_way(text, &deeps, " main", main_way(self.code, &deeps))?;
+        self.put_way(text, &deeps, " main", main_way(self.code, &deeps));
         for way in handler_ways(self.alloc, self.code, &deeps)? {
-            self.put_way(text, &deeps, "", way)?;
+            self.put_way(text, &deeps, "", way);
         }
         Ok(())
     }
@@ -368,106 +345,99 @@ impl Section {
 struct Writing<'p, 'a> {
     listed: Listed<'p>,
     lines: Vec<Vec<&'a [u8]>>,
-    text: Vec<u8>,
+    text: Noted<u8>,
     above: Option<u32>,
 }
 
 impl Writing<'_, '_> {
     /// Adds a line of a source, unless it stands above already.
-    fn put_source(&mut self, module: usize, line: u32) -> Result<(), AllocError> {
+    fn put_source(&mut self, module: usize, line: u32) {
         if self.above == Some(line) {
-            return Ok(());
+            return;
         }
-        let number = format!(in self.listed.alloc; "{line:>5}  ")?;
-        self.text.extend_from_slice(number.as_str().as_bytes())?;
-        let words = source_line(&self.lines, module, line);
-        self.text.extend_from_slice(words)?;
-        self.text.push(b'\n')?;
+        let mut buffer = Buffer::new();
+        let digits = buffer.format(line).as_bytes();
+        self.text
+            .put(&b"     "[..5usize.saturating_sub(digits.len())]);
+        self.text.put(digits);
+        self.text.put(b"  ");
+        self.text.put(source_line(&self.lines, module, line));
+        self.text.add(b'\n');
         self.above = Some(line);
-        Ok(())
     }
 
     /// Adds what stands above a statement.
-    fn put_mark(&mut self, module: usize, mark: Mark) -> Result<(), AllocError> {
+    fn put_mark(&mut self, module: usize, mark: Mark) {
         match mark.line {
             Some(line) => self.put_source(module, line),
             None => {
                 self.above = None;
-                self.text.extend_from_slice(b"       end\n")
+                self.text.put(b"       end\n");
             }
         }
     }
 
     /// Adds the lines of the statements that begin at an instruction, from the mark of this number on, and answers the number of the mark
     /// behind them.
-    fn put_marks(
-        &mut self,
-        section: &Section,
-        from: usize,
-        index: usize,
-    ) -> Result<usize, AllocError> {
+    fn put_marks(&mut self, section: &Section, from: usize, index: usize) -> usize {
         for number in from..section.marks.len() {
             let mark = section.marks[number];
             if mark.index != index {
-                return Ok(number);
+                return number;
             }
-            self.put_mark(section.module, mark)?;
+            self.put_mark(section.module, mark);
         }
-        Ok(section.marks.len())
+        section.marks.len()
     }
 
     /// Adds the rows of a part under their statements.
-    fn put_rows(&mut self, section: &Section) -> Result<(), AllocError> {
+    fn put_rows(&mut self, section: &Section) {
         let mut next: usize = 0;
         let instructions = self.listed.code.instructions(section.routine);
         for (index, instruction) in instructions.iter().enumerate() {
-            next = self.put_marks(section, next, index)?;
+            next = self.put_marks(section, next, index);
             let from = section.place(index);
             let to = section.place(index.saturating_add(1));
             let listed = self.listed;
-            listed.put_row(&mut self.text, *instruction, from, to)?;
+            listed.put_row(&mut self.text, *instruction, from, to);
         }
-        Ok(())
     }
 
     /// Adds a part: its name, the line of its declaration, what saves registers, and its statements.
-    fn put_section(&mut self, section: &Section) -> Result<(), AllocError> {
+    fn put_section(&mut self, section: &Section) {
         self.above = None;
-        self.text.push(b'\n')?;
+        self.text.add(b'\n');
         let listed = self.listed;
-        listed.put_name(&mut self.text, section)?;
+        listed.put_name(&mut self.text, section);
         if let Some(line) = section.line {
-            self.put_source(section.module, line)?;
+            self.put_source(section.module, line);
         }
-        listed.put_instructions(&mut self.text, section.begin, section.place(0))?;
+        listed.put_instructions(&mut self.text, section.begin, section.place(0));
         self.put_rows(section)
     }
 
-    fn put_sections(&mut self, sections: &[Section]) -> Result<(), AllocError> {
+    fn put_sections(&mut self, sections: &[Section]) {
         for section in sections {
-            self.put_section(section)?;
+            self.put_section(section);
         }
-        Ok(())
     }
 
     /// Adds the names of the parts, and before them start-up's.
-    fn put_names(&mut self, sections: &[Section]) -> Result<(), AllocError> {
+    fn put_names(&mut self, sections: &[Section]) {
         let listed = self.listed;
         for section in sections {
-            listed.put_name(&mut self.text, section)?;
+            listed.put_name(&mut self.text, section);
         }
-        Ok(())
     }
 
     /// Adds start-up, which leads to main.
-    fn put_start_up(&mut self) -> Result<(), AllocError> {
+    fn put_start_up(&mut self) {
         let listed = self.listed;
-        self.text.extend_from_slice(b"\nSTART-UP\n")?;
-        listed.put_instructions(&mut self.text, 0, listed.begin)?;
+        self.text.put(b"\nSTART-UP\n");
+        listed.put_instructions(&mut self.text, 0, listed.begin);
         let reset = listed.rom.len().saturating_sub(RESET);
-        self.text.extend_from_slice(b"\nRESET\n")?;
-        listed.put_line(&mut self.text, reset, listed.rom.len())?;
-        Ok(())
+        self.text.put(b"\nRESET\n");
+        listed.put_line(&mut self.text, reset, listed.rom.len());
     }
 }
 
@@ -496,15 +466,15 @@ fn parts_text(
     let mut writing = Writing {
         listed,
         lines: all_lines(alloc, sources)?,
-        text: Vec::new(alloc),
+        text: Noted::new(alloc),
         above: None,
     };
-    writing.put_names(&sections)?;
+    writing.put_names(&sections);
     listed.put_ways(&mut writing.text)?;
-    writing.put_sections(&sections)?;
-    writing.put_start_up()?;
+    writing.put_sections(&sections);
+    writing.put_start_up();
     let Writing { text, .. } = writing;
-    Ok(text)
+    Ok(text.whole()?)
 }
 
 /// The code of a program as a listing: the map's lines, a line for each part with its address, its bytes and its name, the deepest paths of

@@ -105,8 +105,8 @@ struct Case<'e, 's, 'a> {
 }
 
 impl<'e, 's, 'a> Case<'e, 's, 'a> {
-    fn words(&self, words: &'static str) -> Result<Told, Fault> {
-        Ok(tell(self.alloc, None, &[Part::Words(words)])?)
+    fn words(&self, words: &'static str) -> Told {
+        tell(self.alloc, None, &[Part::Words(words)])
     }
 
     fn work(&self) -> &'e Work<'a> {
@@ -132,14 +132,14 @@ impl<'e, 's, 'a> Case<'e, 's, 'a> {
     fn syntax(&self) -> Result<Told, Fault> {
         match self.source() {
             Some(source) => syntax_fault(self.alloc, source),
-            None => self.words(""),
+            None => Ok(self.words("")),
         }
     }
 
     fn token(&self, fault: TokenFault) -> Result<Told, Fault> {
         match self.source() {
             Some(source) => token_fault(self.alloc, source, fault),
-            None => self.words(""),
+            None => Ok(self.words("")),
         }
     }
 
@@ -167,31 +167,31 @@ impl<'e, 's, 'a> Case<'e, 's, 'a> {
 
     fn name(&self, fault: NameFault) -> Result<Told, Fault> {
         let Some(at) = self.at() else {
-            return self.words("");
+            return Ok(self.words(""));
         };
         match fault {
             NameFault::Undeclared => undeclared(self.alloc, &at),
             NameFault::Twice => declared_twice(self.alloc, &at),
-            NameFault::Misplaced => misplaced(self.alloc, &at),
+            NameFault::Misplaced => Ok(misplaced(self.alloc, &at)),
             NameFault::Base => bad_base(self.alloc, &at),
-            NameFault::Values => values_misfit(self.alloc, &at),
+            NameFault::Values => Ok(values_misfit(self.alloc, &at)),
             NameFault::Unjoined => unjoined(self.alloc, &at),
             NameFault::Publics => two_publics(self.alloc, &at),
-            NameFault::Handlers => two_handlers(self.alloc, &at),
+            NameFault::Handlers => Ok(two_handlers(self.alloc, &at)),
         }
     }
 
     fn mains(&self) -> Result<Told, Fault> {
         match self.work() {
             Work::Names(program) => mains(self.alloc, program),
-            Work::Nothing | Work::Tokens(_) | Work::Types(_) => self.words(""),
+            Work::Nothing | Work::Tokens(_) | Work::Types(_) => Ok(self.words("")),
         }
     }
 
     fn data(&self) -> Result<Told, Fault> {
         match self.work() {
             Work::Names(program) => too_much_data(self.alloc, program),
-            Work::Nothing | Work::Tokens(_) | Work::Types(_) => self.words(""),
+            Work::Nothing | Work::Tokens(_) | Work::Types(_) => Ok(self.words("")),
         }
     }
 
@@ -203,7 +203,7 @@ impl<'e, 's, 'a> Case<'e, 's, 'a> {
         }
     }
 
-    fn types(&self, fault: TypeFault) -> Result<Told, Fault> {
+    fn types(&self, fault: TypeFault) -> Told {
         match (self.typed(), self.token_at()) {
             (Some(typed), Some(token)) => {
                 type_fault(self.alloc, typed, self.fault.module, token, fault)
@@ -214,7 +214,7 @@ impl<'e, 's, 'a> Case<'e, 's, 'a> {
 
     fn calls(&self, fault: CallFault) -> Result<Told, Fault> {
         let (Some(typed), Some(token)) = (self.typed(), self.token_at()) else {
-            return self.words("");
+            return Ok(self.words(""));
         };
         let calling = Calling {
             alloc: self.alloc,
@@ -227,38 +227,38 @@ impl<'e, 's, 'a> Case<'e, 's, 'a> {
         match fault {
             CallFault::Recursion => calling.recursion(),
             CallFault::LettingIn => calling.letting_in(),
-            CallFault::Misused => calling.misused(),
+            CallFault::Misused => Ok(calling.misused()),
         }
     }
 
     fn stack(&self) -> Result<Told, Fault> {
         match self.explainer.compiled {
             Some(compiled) => full_stack(self.alloc, compiled),
-            None => self.words(""),
+            None => Ok(self.words("")),
         }
     }
 
     fn rom(&self) -> Result<Told, Fault> {
         match self.explainer.compiled {
             Some(compiled) => full_rom(self.alloc, compiled),
-            None => self.words(""),
+            None => Ok(self.words("")),
         }
     }
 
     fn told(&self) -> Result<Told, Fault> {
         match kind_of(self.fault.number) {
-            FaultKind::Words(words) => self.words(words),
+            FaultKind::Words(words) => Ok(self.words(words)),
             FaultKind::Text(fault) => self.text(fault),
             FaultKind::Syntax => self.syntax(),
             FaultKind::Token(fault) => self.token(fault),
             FaultKind::Name(fault) => self.name(fault),
             FaultKind::Mains => self.mains(),
             FaultKind::Data => self.data(),
-            FaultKind::Types(fault) => self.types(fault),
+            FaultKind::Types(fault) => Ok(self.types(fault)),
             FaultKind::Calls(fault) => self.calls(fault),
             FaultKind::Stack => self.stack(),
             FaultKind::Rom => self.rom(),
-            FaultKind::Run(_) => self.words(""),
+            FaultKind::Run(_) => Ok(self.words("")),
         }
     }
 }
@@ -274,9 +274,9 @@ fn told_of_run(
     match kind_of(number) {
         FaultKind::Run(RunFault::Line) => schedule_line(alloc, quoted),
         FaultKind::Run(RunFault::Order) => schedule_order(alloc, file, quoted, line),
-        FaultKind::Run(RunFault::NoStop) => no_stop(alloc),
-        FaultKind::Run(RunFault::Unwritten) => Ok(tell(alloc, None, &[Part::Words(UNWRITTEN)])?),
-        FaultKind::Run(RunFault::RomLength) => rom_length(alloc, file.len()),
+        FaultKind::Run(RunFault::NoStop) => Ok(no_stop(alloc)),
+        FaultKind::Run(RunFault::Unwritten) => Ok(tell(alloc, None, &[Part::Words(UNWRITTEN)])),
+        FaultKind::Run(RunFault::RomLength) => Ok(rom_length(alloc, file.len())),
         FaultKind::Words(_)
         | FaultKind::Text(_)
         | FaultKind::Syntax
@@ -287,7 +287,7 @@ fn told_of_run(
         | FaultKind::Types(_)
         | FaultKind::Calls(_)
         | FaultKind::Stack
-        | FaultKind::Rom => Ok(tell(alloc, None, &[])?),
+        | FaultKind::Rom => Ok(tell(alloc, None, &[])),
     }
 }
 
@@ -296,10 +296,7 @@ fn without_fault(alloc: Global, told: Result<Told, Fault>) -> Result<Told, Alloc
     match told {
         Ok(told) => Ok(told),
         Err(Fault::Memory) => Err(AllocError),
-        Err(Fault::At(_, _, _)) => Ok(Told {
-            mark: None,
-            help: Vec::new(alloc),
-        }),
+        Err(Fault::At(_, _, _)) => Ok(tell(alloc, None, &[])),
     }
 }
 
@@ -437,7 +434,7 @@ impl<'s, 'a> Explainer<'s, 'a> {
         let told = without_fault(self.alloc, case.told())?;
         let (column, width) = marked(quoted.len(), told.mark);
         let width = marked_width(page, number_before(fault), line, quoted, column, width);
-        let help = or_pages(self.alloc, told.help)?;
+        let help = or_pages(self.alloc, told.help.whole()?)?;
         Ok(Explanation {
             quoted,
             column,
@@ -484,7 +481,7 @@ pub fn explain_run<'a>(
     let quoted = line_at(file, line);
     let told = without_fault(alloc, told_of_run(alloc, file, quoted, line, number))?;
     let (column, width) = marked(quoted.len(), told.mark);
-    let help = or_pages(alloc, told.help)?;
+    let help = or_pages(alloc, told.help.whole()?)?;
     Ok(Explanation {
         quoted,
         column,

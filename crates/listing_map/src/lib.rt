@@ -9,6 +9,7 @@ mod halves;
 mod lines;
 mod linting;
 mod messages;
+mod noted;
 mod numerals;
 mod padding;
 mod phase_faults;

@@ -13,6 +13,7 @@ mod walk;
 use crate::explaining::reason::operator_name;
 use crate::explaining::sentence::{Part, sentence};
 use crate::explaining::studied::{Studied, names_of, study};
+use crate::noted::Noted;
 use crate::texts::NamedText;
 use plm_decl::Names;
 use plm_syntax::BinaryOperator;
@@ -67,7 +68,7 @@ fn misfit_words(
     words: &'static str,
     number: u32,
     more: &'static str,
-) -> Result<Vec<u8>, AllocError> {
+) -> Noted<u8> {
     let number = Part::Number(u64::from(number));
     sentence(
         alloc,
@@ -76,12 +77,7 @@ fn misfit_words(
 }
 
 /// What is said of a subscript outside its array.
-fn outside_words(
-    alloc: Global,
-    name: Part<'_>,
-    subscript: u32,
-    count: u32,
-) -> Result<Vec<u8>, AllocError> {
+fn outside_words(alloc: Global, name: Part<'_>, subscript: u32, count: u32) -> Noted<u8> {
     sentence(
         alloc,
         &[
@@ -95,7 +91,7 @@ fn outside_words(
     )
 }
 
-fn words_of(alloc: Global, name: &[u8], finding: Finding) -> Result<Vec<u8>, AllocError> {
+fn words_of(alloc: Global, name: &[u8], finding: Finding) -> Noted<u8> {
     let name = Part::Spelled(name);
     let words = match finding {
         Finding::Outside(subscript, count) => return outside_words(alloc, name, subscript, count),
@@ -127,12 +123,13 @@ fn all_found(
     sources: &[Studied<'_>],
     names: &Names,
 ) -> Result<Vec<Found>, AllocError> {
-    let mut found = Vec::new(alloc);
-    add_walked(alloc, names, &mut found)?;
-    add_without_return(alloc, names, &mut found)?;
+    let mut noted = Noted::new(alloc);
+    add_walked(alloc, names, &mut noted);
+    add_without_return(alloc, names, &mut noted)?;
     for (module, source) in sources.iter().enumerate() {
-        add_unused(alloc, source, module, &mut found)?;
+        add_unused(alloc, source, module, &mut noted)?;
     }
+    let mut found = noted.whole()?;
     found.sort_by_key(|it: &Found| (it.module, it.number))?;
     Ok(found)
 }
@@ -147,21 +144,31 @@ fn lint_of<'a>(alloc: Global, source: &Studied<'a>, found: Found) -> Result<Lint
         file: source.name,
         line: source.line(found.number),
         column,
-        words: words_of(alloc, source.spelled(found.number), found.finding)?,
+        words: words_of(alloc, source.spelled(found.number), found.finding).whole()?,
     })
+}
+
+/// The notes of these findings.
+fn lints_at<'a>(
+    alloc: Global,
+    sources: &[Studied<'a>],
+    all: &[Found],
+) -> Result<Vec<Lint<'a>>, AllocError> {
+    let mut lints = Vec::new(alloc);
+    for found in all {
+        if let Some(source) = sources.get(found.module) {
+            lints.push(lint_of(alloc, source, *found)?)?;
+        }
+    }
+    Ok(lints)
 }
 
 /// The notes of sources that have no fault, module by module and in the order of their tokens.
 fn lints_of<'a>(alloc: Global, sources: &[NamedText<'a>]) -> Result<Vec<Lint<'a>>, Fault> {
     let studied = study(alloc, sources)?;
     let names = names_of(alloc, &studied)?;
-    let mut lints = Vec::new(alloc);
-    for found in all_found(alloc, &studied, &names)? {
-        if let Some(source) = studied.get(found.module) {
-            lints.push(lint_of(alloc, source, found)?)?;
-        }
-    }
-    Ok(lints)
+    let all = all_found(alloc, &studied, &names)?;
+    Ok(lints_at(alloc, &studied, &all)?)
 }
 
 /// The notes of sources, module by module and in the order of their tokens; none where they have a fault of text, grammar or names. Of sources

@@ -8,7 +8,7 @@ ghost use Rattle.listing_map.specs.Messages.{IsMarkLine, IsQuoted, IsTold, blank
 
 use crate::explaining::Explanation;
 use itoa::Buffer;
-use serde_json::{Value, json};
+use serde_json::{Map, Value, put};
 use std::alloc::{AllocError, Global};
 use std::str::from_utf8;
 use unicode_width::{UnicodeWidthChar, UnicodeWidthStr};
@@ -62,6 +62,25 @@ fn column_value(column: Option<usize>) -> Value {
     }
 }
 
+/// Puts a text into an object, or null where there is none.
+fn put_text(
+    alloc: Global,
+    object: &mut Map<String, Value>,
+    key: &str,
+    text: Option<&[u8]>,
+) -> Result<(), AllocError> {
+    let value = text_or_null(alloc, text)?;
+    put(object, alloc, key, value)
+}
+
+/// An object as a line.
+fn line_of(alloc: Global, object: Map<String, Value>) -> Result<Vec<u8>, AllocError> {
+    let text = Value::Object(object).to_string(alloc)?;
+    let mut bytes = Vec::from_slice(alloc, text.as_str().as_bytes())?;
+    bytes.push(b'\n')?;
+    Ok(bytes)
+}
+
 /// A message as an object in JSON, with a line feed: the file that it is of and where, its number and what would do where it has them, and
 /// its words. Want of memory is its one error.
 pub fn object_line(
@@ -72,18 +91,14 @@ pub fn object_line(
     words: &str,
     help: Option<&[u8]>,
 ) -> Result<Vec<u8>, AllocError> {
-    let file = text_value(alloc, file.as_bytes())?;
-    let number = text_or_null(alloc, number)?;
-    let words = text_value(alloc, words.as_bytes())?;
-    let help = text_or_null(alloc, help)?;
-    let line = line_value(place.line);
-    let column = column_value(place.column);
-    let object =
-        json!(in alloc; {"file": file, "line": line, "column": column, "number": number, "words": words, "help": help})?;
-    let text = object.to_string(alloc)?;
-    let mut bytes = Vec::from_slice(alloc, text.as_str().as_bytes())?;
-    bytes.push(b'\n')?;
-    Ok(bytes)
+    let mut object = Map::new(alloc);
+    put_text(alloc, &mut object, "file", Some(file.as_bytes()))?;
+    put(&mut object, alloc, "line", line_value(place.line))?;
+    put(&mut object, alloc, "column", column_value(place.column))?;
+    put_text(alloc, &mut object, "number", number)?;
+    put_text(alloc, &mut object, "words", Some(words.as_bytes()))?;
+    put_text(alloc, &mut object, "help", help)?;
+    line_of(alloc, object)
 }
 
 /// So many of one byte.

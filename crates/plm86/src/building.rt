@@ -10,15 +10,16 @@ use crate::explained::named_texts;
 use crate::order::{RomForms, Telling};
 use crate::outputs::{Outputs, refuse_losses};
 use crate::padded::{pad_given, written_rom};
-use crate::sources::{build_sources, read_texts, remarks, sources_of};
+use crate::sources::{build_sources, read_texts, sources_of};
 use crate::stop::Stop;
 use crate::telling::{ReadFor, Teller};
 use crate::writing::Output;
+use icode::Code;
 use layout_link::RomSize;
 use listing_map::{RomHalves, code_listing, listing, map, rom_halves, rom_hex};
 use lower::lower;
 use plm_type::{Warning, warnings};
-use std::alloc::Global;
+use std::alloc::{AllocError, Global};
 use std::mem::forget;
 use std::rt::Files;
 use word86::{Sink, WriterSink, put_all};
@@ -51,11 +52,31 @@ pub(crate) fn build_rom<R: Files, S: Sink>(
         sources: &sources,
         read_for: ReadFor::Build(size),
     };
-    let built = build_sources(&teller, size)?;
-    let written = write_built(rt, &teller, outputs, &built, pad, errors);
+    build_and_write(rt, &teller, size, outputs, pad, errors)
+}
+
+// Builds the sources, and writes what they are built to.
+fn build_and_write<R: Files, S: Sink>(
+    rt: &R,
+    teller: &Teller<'_, '_>,
+    size: RomSize,
+    outputs: Outputs<'_>,
+    pad: Option<u8>,
+    errors: &mut S,
+) -> Result<u8, Stop> {
+    let built = build_sources(teller, size)?;
+    let written = write_built(rt, teller, outputs, &built, pad, errors);
     // The process ends next, which gives this memory back faster than it can be taken apart.
     forget(built);
     written
+}
+
+// What the files are made of: what was built, the ROM as it is written, and the warnings.
+#[derive(Clone, Copy)]
+struct Made<'m> {
+    built: &'m Built,
+    rom: &'m [u8],
+    given: &'m [Warning],
 }
 
 // Shows the warnings and notes, and writes the files. Where they cannot be shown, the outputs still tell. All memory is taken before, so
@@ -68,42 +89,122 @@ fn write_built<R: Files, S: Sink>(
     pad: Option<u8>,
     errors: &mut S,
 ) -> Result<u8, Stop> {
-    let alloc = teller.alloc;
     let rom = written_rom(teller, built, pad)?;
-    let given = teller.or_refusal(warnings(alloc, &built.program))?;
-    let mut others: Vec<Prepared<'_>> = Vec::new(alloc);
-    let mut rom_file = Output::new(rt, alloc, outputs.rom)?;
-    let listing_text = text_of_listing(alloc, outputs.listing, teller.sources, &given)?;
-    prepare(rt, alloc, outputs.listing, listing_text, &mut others)?;
-    let map_text = text_of_map(alloc, outputs.map, built)?;
-    prepare(rt, alloc, outputs.map, map_text, &mut others)?;
-    prepare_forms(rt, alloc, outputs.forms, &rom, &mut others)?;
-    let code_text = text_of_code(teller, outputs.forms.code, built)?;
-    prepare(rt, alloc, outputs.forms.code, code_text, &mut others)?;
-    let remarks = remarks(teller, &given)?;
+    let given = teller.or_refusal(warnings(teller.alloc, &built.program))?;
+    let made = Made {
+        built,
+        rom: &rom,
+        given: &given,
+    };
+    write_made(rt, teller, outputs, made, errors)
+}
+
+// The same, once nothing more can be refused.
+fn write_made<R: Files, S: Sink>(
+    rt: &R,
+    teller: &Teller<'_, '_>,
+    outputs: Outputs<'_>,
+    made: Made<'_>,
+    errors: &mut S,
+) -> Result<u8, Stop> {
+    let mut rom_file = Output::new(rt, teller.alloc, outputs.rom)?;
+    let others = other_files(rt, teller, outputs, made)?;
+    show_remarks(teller, made.given, errors)?;
+    rom_file.write(rt, teller.alloc, made.rom)?;
+    write_all(rt, teller.alloc, others)
+}
+
+// Shows the warnings and notes.
+fn show_remarks<S: Sink>(
+    teller: &Teller<'_, '_>,
+    given: &[Warning],
+    errors: &mut S,
+) -> Result<(), Stop> {
+    let remarks = teller.remarks(given)?;
     let _ = put_all(errors, &remarks);
-    rom_file.write(rt, alloc, &rom)?;
-    for other in others {
-        let Prepared { mut file, bytes } = other;
+    Ok(())
+}
+
+// Writes the files, one after another.
+fn write_all<R: Files>(rt: &R, alloc: Global, files: Vec<Prepared<'_>>) -> Result<u8, Stop> {
+    for prepared in files {
+        let Prepared { mut file, bytes } = prepared;
         file.write(rt, alloc, &bytes)?;
     }
     Ok(0)
 }
 
-// Puts a file behind the others, where it is wanted.
+// The files that are wanted beside the ROM's, in the order in which they are written.
+fn other_files<'a, R: Files>(
+    rt: &R,
+    teller: &Teller<'_, '_>,
+    outputs: Outputs<'a>,
+    made: Made<'_>,
+) -> Result<Vec<Prepared<'a>>, Stop> {
+    let mut others = Vec::new(teller.alloc);
+    prepare_listing(rt, teller, outputs.listing, made.given, &mut others)?;
+    prepare_map(rt, teller.alloc, outputs.map, made.built, &mut others)?;
+    prepare_forms(rt, teller.alloc, outputs.forms, made.rom, &mut others)?;
+    prepare_code(rt, teller, outputs.forms.code, made.built, &mut others)?;
+    Ok(others)
+}
+
+// Puts a file behind the others.
 fn prepare<'a, R: Files>(
     rt: &R,
     alloc: Global,
-    name: Option<&'a str>,
+    name: &'a str,
     bytes: Vec<u8>,
+    others: &mut Vec<Prepared<'a>>,
+) -> Result<(), Stop> {
+    let file = Output::new(rt, alloc, name)?;
+    others.push(Prepared { file, bytes })?;
+    Ok(())
+}
+
+// Puts the listing behind the others, where it is wanted.
+fn prepare_listing<'a, R: Files>(
+    rt: &R,
+    teller: &Teller<'_, '_>,
+    name: Option<&'a str>,
+    given: &[Warning],
     others: &mut Vec<Prepared<'a>>,
 ) -> Result<(), Stop> {
     let Some(name) = name else {
         return Ok(());
     };
-    let file = Output::new(rt, alloc, name)?;
-    others.push(Prepared { file, bytes })?;
-    Ok(())
+    let text = text_of_listing(teller.alloc, teller.sources, given)?;
+    prepare(rt, teller.alloc, name, text, others)
+}
+
+// Puts the map behind the others, where it is wanted.
+fn prepare_map<'a, R: Files>(
+    rt: &R,
+    alloc: Global,
+    name: Option<&'a str>,
+    built: &Built,
+    others: &mut Vec<Prepared<'a>>,
+) -> Result<(), Stop> {
+    let Some(name) = name else {
+        return Ok(());
+    };
+    let text = text_of_map(alloc, built)?;
+    prepare(rt, alloc, name, text, others)
+}
+
+// Puts the code as a listing behind the others, where it is wanted.
+fn prepare_code<'a, R: Files>(
+    rt: &R,
+    teller: &Teller<'_, '_>,
+    name: Option<&'a str>,
+    built: &Built,
+    others: &mut Vec<Prepared<'a>>,
+) -> Result<(), Stop> {
+    let Some(name) = name else {
+        return Ok(());
+    };
+    let text = text_of_code(teller, built)?;
+    prepare(rt, teller.alloc, name, text, others)
 }
 
 // Puts the ROM's other forms behind the others, those that are wanted.
@@ -114,85 +215,115 @@ fn prepare_forms<'a, R: Files>(
     rom: &[u8],
     others: &mut Vec<Prepared<'a>>,
 ) -> Result<(), Stop> {
-    let hex_text = text_of_hex(alloc, forms.hex, rom)?;
-    prepare(rt, alloc, forms.hex, hex_text, others)?;
+    prepare_hex(rt, alloc, forms.hex, rom, others)?;
     if forms.even.is_none() && forms.odd.is_none() {
         return Ok(());
     }
     let RomHalves { even, odd } = rom_halves(alloc, rom)?;
-    prepare(rt, alloc, forms.even, even, others)?;
-    prepare(rt, alloc, forms.odd, odd, others)
+    prepare_half(rt, alloc, forms.even, even, others)?;
+    prepare_half(rt, alloc, forms.odd, odd, others)
 }
 
-// The code as a listing; nothing where no file is wanted. Since the program was built, nothing but memory can be wanting; another fault
-// would be told as what it is.
-fn text_of_code(
-    teller: &Teller<'_, '_>,
-    file: Option<&str>,
-    built: &Built,
-) -> Result<Vec<u8>, Stop> {
-    let alloc = teller.alloc;
-    if file.is_none() {
-        return Ok(Vec::new(alloc));
+// Puts half of the ROM's bytes behind the others, where it is wanted.
+fn prepare_half<'a, R: Files>(
+    rt: &R,
+    alloc: Global,
+    name: Option<&'a str>,
+    bytes: Vec<u8>,
+    others: &mut Vec<Prepared<'a>>,
+) -> Result<(), Stop> {
+    match name {
+        Some(name) => prepare(rt, alloc, name, bytes, others),
+        None => Ok(()),
     }
-    let code = teller.or_refusal(lower(alloc, &built.program))?;
-    let texts = named_texts(alloc, teller.sources)?;
-    teller.or_refusal(code_listing(alloc, &texts, &built.program, &code, &built.image))
 }
 
-// The ROM as Intel HEX; nothing where no file is wanted.
-fn text_of_hex(alloc: Global, file: Option<&str>, rom: &[u8]) -> Result<Vec<u8>, Stop> {
+// Puts the ROM as Intel HEX behind the others, where it is wanted.
+fn prepare_hex<'a, R: Files>(
+    rt: &R,
+    alloc: Global,
+    name: Option<&'a str>,
+    rom: &[u8],
+    others: &mut Vec<Prepared<'a>>,
+) -> Result<(), Stop> {
+    let Some(name) = name else {
+        return Ok(());
+    };
+    let text = text_of_hex(alloc, rom)?;
+    prepare(rt, alloc, name, text, others)
+}
+
+// The code as a listing. Since the program was built, nothing but memory can be wanting; another fault would be told as what it is.
+fn text_of_code(teller: &Teller<'_, '_>, built: &Built) -> Result<Vec<u8>, Stop> {
+    let code = teller.or_refusal(lower(teller.alloc, &built.program))?;
+    listed_code(teller, built, &code)
+}
+
+// The code of a program as a listing.
+fn listed_code(teller: &Teller<'_, '_>, built: &Built, code: &Code) -> Result<Vec<u8>, Stop> {
+    let texts = named_texts(teller.alloc, teller.sources)?;
+    let listed = code_listing(teller.alloc, &texts, &built.program, code, &built.image);
+    teller.or_refusal(listed)
+}
+
+// The ROM as Intel HEX.
+fn text_of_hex(alloc: Global, rom: &[u8]) -> Result<Vec<u8>, Stop> {
     let mut text = Vec::new(alloc);
-    if file.is_some() && rom_hex(rom, &mut WriterSink::new(&mut text)).is_err() {
-        return Err(Stop::Memory);
+    match rom_hex(rom, &mut WriterSink::new(&mut text)) {
+        Ok(()) => Ok(text),
+        Err(_) => Err(Stop::Memory),
     }
-    Ok(text)
 }
 
-// The listing of each source, one after the other; nothing where no file is wanted.
+// The listing of each source, one after the other.
 fn text_of_listing(
     alloc: Global,
-    file: Option<&str>,
     sources: &[Source<'_>],
     given: &[Warning],
 ) -> Result<Vec<u8>, Stop> {
     let mut text = Vec::new(alloc);
-    if file.is_none() {
-        return Ok(text);
-    }
     for (ordinal, source) in sources.iter().enumerate() {
-        let own = warnings_of(alloc, ordinal, given)?;
-        if listing(source.text, &own, &mut WriterSink::new(&mut text)).is_err() {
-            return Err(Stop::Memory);
-        }
+        put_listing(alloc, source.text, ordinal, given, &mut text)?;
     }
     Ok(text)
 }
 
+// Puts the listing of the source of this number behind a text.
+fn put_listing(
+    alloc: Global,
+    source: &[u8],
+    ordinal: usize,
+    given: &[Warning],
+    text: &mut Vec<u8>,
+) -> Result<(), Stop> {
+    let own = warnings_of(alloc, ordinal, given)?;
+    match listing(source, &own, &mut WriterSink::new(text)) {
+        Ok(()) => Ok(()),
+        Err(_) => Err(Stop::Memory),
+    }
+}
+
 // The warnings of the module of this number.
-fn warnings_of(alloc: Global, ordinal: usize, given: &[Warning]) -> Result<Vec<Warning>, Stop> {
+fn warnings_of(
+    alloc: Global,
+    ordinal: usize,
+    given: &[Warning],
+) -> Result<Vec<Warning>, AllocError> {
     let mut own = Vec::new(alloc);
     for warning in given {
-        if warning.module == ordinal && own.push(*warning).is_err() {
-            return Err(Stop::Memory);
+        if warning.module == ordinal {
+            own.push(*warning)?;
         }
     }
     Ok(own)
 }
 
-// The map; nothing where no file is wanted.
-fn text_of_map(alloc: Global, file: Option<&str>, built: &Built) -> Result<Vec<u8>, Stop> {
+// The map.
+fn text_of_map(alloc: Global, built: &Built) -> Result<Vec<u8>, Stop> {
     let mut text = Vec::new(alloc);
-    if file.is_some() {
-        if map(
-            &built.image,
-            &built.program,
-            &mut WriterSink::new(&mut text),
-        )
-        .is_err()
-        {
-            return Err(Stop::Memory);
-        }
+    let sink = &mut WriterSink::new(&mut text);
+    match map(&built.image, &built.program, sink) {
+        Ok(()) => Ok(text),
+        Err(_) => Err(Stop::Memory),
     }
-    Ok(text)
 }

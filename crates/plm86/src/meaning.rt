@@ -11,7 +11,7 @@ use crate::mean::{CANNOT_WRITE, MeanEnd, mean_run, mean_status};
 use crate::mean_watched::{Meant, Watching, mean_watched, object_meant};
 use crate::order::{Following, Telling};
 use crate::running::{power_on_of, schedule_of};
-use crate::sources::{build_sources, read_texts, remarks, sources_of};
+use crate::sources::{build_sources, read_texts, sources_of};
 use crate::stop::Stop;
 use crate::telling::{ReadFor, Teller};
 use board::Schedule;
@@ -49,7 +49,7 @@ pub(crate) fn run_meaning<S: Sink>(
     let power_on = power_on_of(alloc, &schedule)?;
     let given = teller.or_refusal(warnings(alloc, &built.program))?;
     // Where they cannot be shown, the trace still tells.
-    let _ = put_all(errors, &remarks(&teller, &given)?);
+    let _ = put_all(errors, &teller.remarks(&given)?);
     let end = trace(rt, alloc, &built, &sources, power_on, &schedule, watching);
     match end {
         Err(fault) => Err(cut_short(fault)),

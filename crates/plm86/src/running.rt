@@ -314,11 +314,11 @@ fn board_of(alloc: Global, run: Run<'_>, schedule: &Schedule) -> Result<Board, S
 fn write_wanted<R: Files>(
     rt: &R,
     alloc: Global,
-    file: Option<Output<'_>>,
+    file: &mut Option<Output<'_>>,
     bytes: &[u8],
 ) -> Result<(), Stop> {
     match file {
-        Some(mut file) => file.write(rt, alloc, bytes),
+        Some(file) => file.write(rt, alloc, bytes),
         None => Ok(()),
     }
 }
@@ -349,7 +349,74 @@ fn wanted_picture(
     }
 }
 
-/// Runs a ROM, and writes the waveform and the picture, where they are wanted, once both are made.
+/// The files that are wanted beside the trace.
+#[derive(Drop)]
+struct WantedFiles<'a> {
+    waveform: Option<Output<'a>>,
+    picture: Option<Output<'a>>,
+}
+
+/// Opens the files that are wanted beside the trace.
+fn wanted_files<'a>(
+    rt: &HostRuntime,
+    alloc: Global,
+    showing: Showing<'a>,
+) -> Result<WantedFiles<'a>, Stop> {
+    let waveform = wanted_file(rt, alloc, showing.waveform)?;
+    let picture = wanted_file(rt, alloc, showing.picture)?;
+    Ok(WantedFiles { waveform, picture })
+}
+
+/// Writes the picture, where it is wanted, once it is made, and before it the waveform.
+fn write_pictured(
+    rt: &HostRuntime,
+    alloc: Global,
+    files: &mut WantedFiles<'_>,
+    showing: Showing<'_>,
+    waveform: &[u8],
+    board: &Board,
+) -> Result<(), Stop> {
+    let picture = wanted_picture(alloc, showing, board)?;
+    write_wanted(rt, alloc, &mut files.waveform, waveform)?;
+    write_wanted(rt, alloc, &mut files.picture, &picture)
+}
+
+/// Writes the waveform and the picture, where they are wanted, once both are made.
+fn write_shown(
+    rt: &HostRuntime,
+    alloc: Global,
+    files: &mut WantedFiles<'_>,
+    showing: Showing<'_>,
+    changes: &SignalChanges,
+    board: &Board,
+) -> Result<(), Stop> {
+    let waveform = text_of_changes(alloc, showing, changes)?;
+    write_pictured(rt, alloc, files, showing, &waveform, board)
+}
+
+/// Runs a board, and writes what is shown beside the trace.
+fn run_board<S: Sink>(
+    rt: &HostRuntime,
+    run: Run<'_>,
+    board: &mut Board,
+    schedule: &Schedule,
+    wanted: Wanted<'_, '_>,
+    files: &mut WantedFiles<'_>,
+    errors: &mut S,
+) -> Result<u8, Stop> {
+    let alloc = rt.alloc();
+    let mut changes = SignalChanges::new(alloc, wanted.showing.waveform.is_some());
+    let end = trace(rt, alloc, board, schedule, wanted, &mut changes);
+    if let Err(fault) = end {
+        return Err(cut_short(fault));
+    }
+    write_shown(rt, alloc, files, wanted.showing, &changes, board)?;
+    // The run is made: where memory is wanting for the note, nothing else is lost.
+    let _ = say_dead(alloc, run, board, schedule, errors);
+    Ok(status(&end))
+}
+
+/// Runs a ROM.
 fn run_schedule<S: Sink>(
     rt: &HostRuntime,
     alloc: Global,
@@ -358,21 +425,9 @@ fn run_schedule<S: Sink>(
     wanted: Wanted<'_, '_>,
     errors: &mut S,
 ) -> Result<u8, Stop> {
-    let file = wanted_file(rt, alloc, wanted.showing.waveform)?;
-    let picture_file = wanted_file(rt, alloc, wanted.showing.picture)?;
+    let mut files = wanted_files(rt, alloc, wanted.showing)?;
     let mut board = board_of(alloc, run, schedule)?;
-    let mut changes = SignalChanges::new(alloc, file.is_some());
-    let end = trace(rt, alloc, &mut board, schedule, wanted, &mut changes);
-    if let Err(fault) = end {
-        return Err(cut_short(fault));
-    }
-    let waveform = text_of_changes(alloc, wanted.showing, &changes)?;
-    let picture = wanted_picture(alloc, wanted.showing, &board)?;
-    write_wanted(rt, alloc, file, &waveform)?;
-    write_wanted(rt, alloc, picture_file, &picture)?;
-    // The run is made: where memory is wanting for the note, nothing else is lost.
-    let _ = say_dead(alloc, run, &board, schedule, errors);
-    Ok(status(&end))
+    run_board(rt, run, &mut board, schedule, wanted, &mut files, errors)
 }
 
 /// Refuses a run by which a file would be lost.
@@ -424,21 +479,59 @@ pub(crate) fn run_rom<S: Sink>(
     let stop_at = address_given(alloc, showing.stop_at)?;
     refuse_losses(rt, alloc, rom_name, schedule_name, showing)?;
     let rom = read_file(rt, alloc, rom_name, Some(ROM_LIMIT))?;
-    let text = read_file(rt, alloc, schedule_name, None)?;
-    let map = read_map(rt, alloc, showing.names)?;
-    let schedule = schedule_of(alloc, telling, schedule_name, &text)?;
-    let names = read_names(alloc, &map)?;
-    let named = showing.names.is_some().then_some(names.as_slice());
-    let watch = watch_of(showing.turns, stop_at, named);
     let run = Run {
         name: rom_name,
         rom: &rom,
         telling,
     };
-    let wanted = Wanted {
+    let asked = Asked {
         showing,
         dump,
-        watch,
+        stop_at,
     };
-    run_schedule(rt, alloc, run, &schedule, wanted, errors)
+    run_under(rt, alloc, run, schedule_name, asked, errors)
+}
+
+/// What the command line asks for.
+#[derive(Clone, Copy)]
+struct Asked<'s> {
+    showing: Showing<'s>,
+    dump: Option<Addresses>,
+    stop_at: Option<u32>,
+}
+
+/// Runs a ROM under the schedule of a file.
+fn run_under<S: Sink>(
+    rt: &HostRuntime,
+    alloc: Global,
+    run: Run<'_>,
+    schedule_name: &str,
+    asked: Asked<'_>,
+    errors: &mut S,
+) -> Result<u8, Stop> {
+    let text = read_file(rt, alloc, schedule_name, None)?;
+    let map = read_map(rt, alloc, asked.showing.names)?;
+    let schedule = schedule_of(alloc, run.telling, schedule_name, &text)?;
+    run_with_names(rt, alloc, run, &schedule, &map, asked, errors)
+}
+
+/// The same, with the names of a map's text.
+fn run_with_names<S: Sink>(
+    rt: &HostRuntime,
+    alloc: Global,
+    run: Run<'_>,
+    schedule: &Schedule,
+    map: &[u8],
+    asked: Asked<'_>,
+    errors: &mut S,
+) -> Result<u8, Stop> {
+    let showing = asked.showing;
+    let names = read_names(alloc, map)?;
+    let named = showing.names.is_some().then_some(names.as_slice());
+    let wanted = Wanted {
+        showing,
+        dump: asked.dump,
+        watch: watch_of(showing.turns, asked.stop_at, named),
+    };
+    run_schedule(rt, alloc, run, schedule, wanted, errors)
 }

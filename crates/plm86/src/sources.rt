@@ -7,7 +7,6 @@ use crate::stop::Stop;
 use crate::telling::Teller;
 use layout_link::RomSize;
 use plm_token::SOURCE_LIMIT;
-use plm_type::Warning;
 use std::alloc::Global;
 use std::rt::Files;
 
@@ -46,14 +45,4 @@ pub(crate) fn sources_of<'n: 's, 's>(
 /// What the sources are built to, for a ROM of this size.
 pub(crate) fn build_sources(teller: &Teller<'_, '_>, size: RomSize) -> Result<Built, Stop> {
     teller.or_refusal(build_program(teller.alloc, teller.sources, size))
-}
-
-/// The warnings and notes of a program, as they are shown.
-pub(crate) fn remarks(teller: &Teller<'_, '_>, given: &[Warning]) -> Result<Vec<u8>, Stop> {
-    let mut text = teller.warnings(given)?;
-    let notes = teller.notes()?;
-    text.extend_from_slice(&notes)?;
-    let lints = teller.lints()?;
-    text.extend_from_slice(&lints)?;
-    Ok(text)
 }

@@ -6,8 +6,8 @@ use crate::order::{MessageFormat, Telling};
 use crate::stop::Stop;
 use layout_link::RomSize;
 use listing_map::{
-    Explainer, Explanation, FaultAt, Place, controls, explain_run, explained_lines, fault_line,
-    lints, number_and_words, object_line,
+    Explainer, Explanation, FaultAt, NamedText, Place, controls, explain_run, explained_lines,
+    fault_line, lints, number_and_words, object_line,
 };
 use plm_type::Warning;
 use std::alloc::{AllocError, Global};
@@ -64,110 +64,146 @@ impl<'s, 'a> Teller<'s, 'a> {
         }
     }
 
-    /// The object of a fault or a warning.
-    fn object(&self, fault: FaultAt, explanation: &Explanation<'_>) -> Result<Vec<u8>, AllocError> {
-        let (number, words) = number_and_words(fault.number);
-        let column = if explanation.width > 0 {
-            Some(explanation.column.saturating_add(1))
-        } else {
-            None
-        };
-        let place = Place {
-            line: Some(fault.line),
-            column,
-        };
-        let help = explanation.help.as_slice();
-        object_line(
-            self.alloc,
-            self.name(fault.module),
-            place,
-            Some(number.as_bytes()),
-            words,
-            Some(help),
-        )
-    }
-
-    /// The line of a fault or a warning.
-    fn line(&self, fault: FaultAt) -> Result<Vec<u8>, AllocError> {
-        let mut text = Vec::new(self.alloc);
-        let sink = &mut WriterSink::new(&mut text);
-        if fault_line(self.name(fault.module), fault.line, fault.number, sink).is_err() {
-            return Err(AllocError);
-        }
-        Ok(text)
-    }
-
-    /// A fault or a warning with what is said of it: an object, or its line and what stands under it.
-    fn explained(
+    /// Puts the object of a fault or a warning behind a text.
+    fn put_object(
         &self,
         fault: FaultAt,
         explanation: &Explanation<'_>,
-    ) -> Result<Vec<u8>, AllocError> {
+        text: &mut Vec<u8>,
+    ) -> Result<(), AllocError> {
+        let (number, words) = number_and_words(fault.number);
+        let place = Place {
+            line: Some(fault.line),
+            column: column_of(explanation),
+        };
+        let help = Some(explanation.help.as_slice());
+        let name = self.name(fault.module);
+        let object = object_line(
+            self.alloc,
+            name,
+            place,
+            Some(number.as_bytes()),
+            words,
+            help,
+        )?;
+        text.extend_from_slice(&object)
+    }
+
+    /// Puts the line of a fault or a warning behind a text.
+    fn put_line(&self, fault: FaultAt, text: &mut Vec<u8>) -> Result<(), AllocError> {
+        let sink = &mut WriterSink::new(text);
+        match fault_line(self.name(fault.module), fault.line, fault.number, sink) {
+            Ok(()) => Ok(()),
+            Err(_) => Err(AllocError),
+        }
+    }
+
+    /// Puts behind a text what stands under a fault's or a warning's line.
+    fn put_further(
+        &self,
+        fault: FaultAt,
+        explanation: &Explanation<'_>,
+        text: &mut Vec<u8>,
+    ) -> Result<(), AllocError> {
+        let further = explained_lines(self.alloc, fault.line, explanation)?;
+        text.extend_from_slice(&further)
+    }
+
+    /// Puts a fault or a warning behind a text, with what is said of it: an object, or its line and what stands under it.
+    fn put_explained(
+        &self,
+        fault: FaultAt,
+        explanation: &Explanation<'_>,
+        text: &mut Vec<u8>,
+    ) -> Result<(), AllocError> {
         match self.telling.format {
-            MessageFormat::Json => self.object(fault, explanation),
+            MessageFormat::Json => self.put_object(fault, explanation, text),
             MessageFormat::Text => {
-                let mut text = self.line(fault)?;
-                let further = explained_lines(self.alloc, fault.line, explanation)?;
-                text.extend_from_slice(&further)?;
-                Ok(text)
+                self.put_line(fault, text)?;
+                self.put_further(fault, explanation, text)
             }
         }
     }
 
-    /// One fault, alone.
-    fn told(&self, fault: FaultAt) -> Result<Vec<u8>, AllocError> {
+    /// Puts one fault, alone, behind a text.
+    fn put_alone(&self, fault: FaultAt, text: &mut Vec<u8>) -> Result<(), AllocError> {
         if !self.explains() {
-            return self.line(fault);
+            return self.put_line(fault, text);
         }
         let explanation = self.explanation(fault)?;
-        self.explained(fault, &explanation)
+        self.put_explained(fault, &explanation, text)
     }
 
-    /// The lines of faults or warnings, one after another.
-    fn lines(&self, faults: &[FaultAt]) -> Result<Vec<u8>, AllocError> {
-        let mut text = Vec::new(self.alloc);
+    /// Puts the lines of faults or warnings behind a text.
+    fn put_lines(&self, faults: &[FaultAt], text: &mut Vec<u8>) -> Result<(), AllocError> {
         for fault in faults {
-            let line = self.line(*fault)?;
-            text.extend_from_slice(&line)?;
+            self.put_line(*fault, text)?;
         }
-        Ok(text)
+        Ok(())
     }
 
-    /// Faults or warnings, one after another, each with what is said of it.
-    fn explained_each(
+    /// Puts one of several faults or warnings behind a text, with what is said of it.
+    fn put_one(
+        &self,
+        explainer: &Explainer<'_, 'a>,
+        fault: FaultAt,
+        text: &mut Vec<u8>,
+    ) -> Result<(), AllocError> {
+        let explanation = explainer.explain(fault)?;
+        self.put_explained(fault, &explanation, text)
+    }
+
+    /// Puts faults or warnings behind a text, each with what is said of it.
+    fn put_each(
         &self,
         explainer: &Explainer<'_, 'a>,
         faults: &[FaultAt],
-    ) -> Result<Vec<u8>, AllocError> {
-        let mut text = Vec::new(self.alloc);
+        text: &mut Vec<u8>,
+    ) -> Result<(), AllocError> {
         for fault in faults {
-            let explanation = explainer.explain(*fault)?;
-            let explained = self.explained(*fault, &explanation)?;
-            text.extend_from_slice(&explained)?;
+            self.put_one(explainer, *fault, text)?;
         }
-        Ok(text)
+        Ok(())
     }
 
-    /// All faults of the phase that a fault is of; the fault alone where that phase has one.
-    fn told_all(&self, first: FaultAt) -> Result<Vec<u8>, AllocError> {
-        let texts = named_texts(self.alloc, self.sources)?;
-        let explainer = Explainer::new(self.alloc, &texts, None, first.number)?;
+    /// Puts all faults of a phase behind a text; the first alone where that phase has one.
+    fn put_phase(
+        &self,
+        explainer: &Explainer<'_, 'a>,
+        first: FaultAt,
+        text: &mut Vec<u8>,
+    ) -> Result<(), AllocError> {
         let all = explainer.faults();
         if all.is_empty() {
-            return self.told(first);
+            return self.put_alone(first, text);
         }
         if !self.explains() {
-            return self.lines(all);
+            return self.put_lines(all, text);
         }
-        self.explained_each(&explainer, all)
+        self.put_each(explainer, all, text)
     }
 
-    /// A fault, or all of its phase where they are wanted.
-    fn told_as_wanted(&self, fault: FaultAt) -> Result<Vec<u8>, AllocError> {
+    /// Puts all faults of the phase that a fault is of behind a text.
+    fn put_all(&self, first: FaultAt, text: &mut Vec<u8>) -> Result<(), AllocError> {
+        let texts = named_texts(self.alloc, self.sources)?;
+        let explainer = Explainer::new(self.alloc, &texts, None, first.number)?;
+        self.put_phase(&explainer, first, text)
+    }
+
+    /// Puts a fault behind a text, or all of its phase where they are wanted.
+    fn put_as_wanted(&self, fault: FaultAt, text: &mut Vec<u8>) -> Result<(), AllocError> {
         match self.read_for {
-            ReadFor::Build(_) if self.telling.tells_all => self.told_all(fault),
-            ReadFor::Build(_) | ReadFor::Run => self.told(fault),
+            ReadFor::Build(_) if self.telling.tells_all => self.put_all(fault, text),
+            ReadFor::Build(_) | ReadFor::Run => self.put_alone(fault, text),
         }
+    }
+
+    /// What is told of a fault, and the notes behind it.
+    fn refused(&self, fault: FaultAt) -> Result<Vec<u8>, AllocError> {
+        let mut text = Vec::new(self.alloc);
+        self.put_as_wanted(fault, &mut text)?;
+        self.put_notes(&mut text)?;
+        Ok(text)
     }
 
     /// The stop for a fault.
@@ -175,14 +211,12 @@ impl<'s, 'a> Teller<'s, 'a> {
         match fault {
             Fault::Memory => Ok(Stop::Memory),
             Fault::At(module, line, number) => {
-                let mut text = self.told_as_wanted(FaultAt {
+                let text = self.refused(FaultAt {
                     module: module as usize,
                     line,
                     token: None,
                     number,
                 })?;
-                let notes = self.notes()?;
-                text.extend_from_slice(&notes)?;
                 Ok(Stop::Refused(text))
             }
         }
@@ -196,88 +230,158 @@ impl<'s, 'a> Teller<'s, 'a> {
         }
     }
 
-    /// The warnings, one after another.
-    pub fn warnings(&self, given: &[Warning]) -> Result<Vec<u8>, AllocError> {
-        let mut faults = Vec::new(self.alloc);
-        for warning in given {
-            faults.push(FaultAt {
-                module: warning.module,
-                line: warning.line,
-                token: None,
-                number: Number::W1,
-            })?;
-        }
-        if faults.is_empty() || !self.explains() {
-            return self.lines(&faults);
-        }
+    /// Puts warnings behind a text, each with what is said of it.
+    fn put_explained_warnings(
+        &self,
+        faults: &[FaultAt],
+        text: &mut Vec<u8>,
+    ) -> Result<(), AllocError> {
         let texts = named_texts(self.alloc, self.sources)?;
         let explainer = Explainer::new(self.alloc, &texts, None, Number::W1)?;
-        self.explained_each(&explainer, &faults)
+        self.put_each(&explainer, faults, text)
     }
 
-    /// A note: with these words, at a line and a column of a file.
-    fn note(
+    /// Puts the warnings behind a text.
+    fn put_warnings(&self, given: &[Warning], text: &mut Vec<u8>) -> Result<(), AllocError> {
+        let faults = faults_of(self.alloc, given)?;
+        if faults.is_empty() || !self.explains() {
+            return self.put_lines(&faults, text);
+        }
+        self.put_explained_warnings(&faults, text)
+    }
+
+    /// Puts a note's object behind a text.
+    fn put_note_object(
+        &self,
+        name: &str,
+        place: Place,
+        words: &str,
+        text: &mut Vec<u8>,
+    ) -> Result<(), AllocError> {
+        let words = format!(in self.alloc; "note: {words}")?;
+        let object = object_line(self.alloc, name, place, None, words.as_str(), None)?;
+        text.extend_from_slice(&object)
+    }
+
+    /// Puts a note's place behind a text: the line in parentheses, as a fault has it.
+    fn put_note_place(&self, line: u32, text: &mut Vec<u8>) -> Result<(), AllocError> {
+        let place = format!(in self.alloc; "({line}): note: ")?;
+        text.extend_from_slice(place.as_str().as_bytes())
+    }
+
+    /// Puts a note's line behind a text.
+    fn put_note_line(
+        &self,
+        name: &str,
+        line: u32,
+        words: &[u8],
+        text: &mut Vec<u8>,
+    ) -> Result<(), AllocError> {
+        text.extend_from_slice(name.as_bytes())?;
+        self.put_note_place(line, text)?;
+        text.extend_from_slice(words)?;
+        text.extend_from_slice(b"\n")
+    }
+
+    /// Puts a note behind a text: with these words, at a line and a column of a file.
+    fn put_note(
         &self,
         name: &str,
         line: u32,
         column: usize,
         words: &[u8],
-    ) -> Result<Vec<u8>, AllocError> {
+        text: &mut Vec<u8>,
+    ) -> Result<(), AllocError> {
         match self.telling.format {
             MessageFormat::Json => {
-                let words = String::from_utf8_lossy(self.alloc, words)?;
-                let words = words.as_str();
-                let words = format!(in self.alloc; "note: {words}")?;
                 let place = Place {
                     line: Some(line),
                     column: Some(column),
                 };
-                object_line(self.alloc, name, place, None, words.as_str(), None)
+                let words = String::from_utf8_lossy(self.alloc, words)?;
+                self.put_note_object(name, place, words.as_str(), text)
             }
-            MessageFormat::Text => {
-                let mut text = Vec::from_slice(self.alloc, name.as_bytes())?;
-                let place = format!(in self.alloc; "({line}): note: ")?;
-                text.extend_from_slice(place.as_str().as_bytes())?;
-                text.extend_from_slice(words)?;
-                text.push(b'\n')?;
-                Ok(text)
-            }
+            MessageFormat::Text => self.put_note_line(name, line, words, text),
         }
     }
 
-    /// A note for each control of a module.
-    fn put_controls(&self, text: &mut Vec<u8>, source: &Source<'_>) -> Result<(), AllocError> {
+    /// Puts a note behind a text: that a control's word has no effect.
+    fn put_control(
+        &self,
+        name: &str,
+        line: u32,
+        word: &[u8],
+        text: &mut Vec<u8>,
+    ) -> Result<(), AllocError> {
+        let mut words = Vec::from_slice(self.alloc, word)?;
+        words.extend_from_slice(b" has no effect here")?;
+        self.put_note(name, line, 1, &words, text)
+    }
+
+    /// Puts a note behind a text for each control of a module.
+    fn put_controls(&self, source: &Source<'_>, text: &mut Vec<u8>) -> Result<(), AllocError> {
         for control in controls(self.alloc, source.text)? {
-            let mut words = Vec::from_slice(self.alloc, control.word)?;
-            words.extend_from_slice(b" has no effect here")?;
-            let note = self.note(source.name, control.line, 1, &words)?;
-            text.extend_from_slice(&note)?;
+            self.put_control(source.name, control.line, control.word, text)?;
         }
         Ok(())
     }
 
-    /// A note for each control of each module; a schedule and a ROM have none.
-    pub fn notes(&self) -> Result<Vec<u8>, AllocError> {
-        let mut text = Vec::new(self.alloc);
-        if matches!(self.read_for, ReadFor::Run) {
-            return Ok(text);
+    /// Puts a note behind a text for each control of each module; a schedule and a ROM have none.
+    fn put_notes(&self, text: &mut Vec<u8>) -> Result<(), AllocError> {
+        match self.read_for {
+            ReadFor::Run => Ok(()),
+            ReadFor::Build(_) => {
+                for source in self.sources {
+                    self.put_controls(source, text)?;
+                }
+                Ok(())
+            }
         }
-        for source in self.sources {
-            self.put_controls(&mut text, source)?;
-        }
-        Ok(text)
     }
 
-    /// The notes on what compiles and is mostly a mistake, where they are wanted.
-    pub fn lints(&self) -> Result<Vec<u8>, AllocError> {
-        let mut text = Vec::new(self.alloc);
+    /// Puts behind a text the notes on what compiles and is mostly a mistake.
+    fn put_lints(&self, sources: &[NamedText<'_>], text: &mut Vec<u8>) -> Result<(), AllocError> {
+        for lint in lints(self.alloc, sources)? {
+            self.put_note(lint.file, lint.line, lint.column, &lint.words, text)?;
+        }
+        Ok(())
+    }
+
+    /// The same where they are wanted.
+    fn put_wanted_lints(&self, text: &mut Vec<u8>) -> Result<(), AllocError> {
         if !self.telling.lints {
-            return Ok(text);
+            return Ok(());
         }
-        for lint in lints(self.alloc, &named_texts(self.alloc, self.sources)?)? {
-            let note = self.note(lint.file, lint.line, lint.column, &lint.words)?;
-            text.extend_from_slice(&note)?;
-        }
+        let texts = named_texts(self.alloc, self.sources)?;
+        self.put_lints(&texts, text)
+    }
+
+    /// The warnings and notes of a program, as they are shown.
+    pub fn remarks(&self, given: &[Warning]) -> Result<Vec<u8>, AllocError> {
+        let mut text = Vec::new(self.alloc);
+        self.put_warnings(given, &mut text)?;
+        self.put_notes(&mut text)?;
+        self.put_wanted_lints(&mut text)?;
         Ok(text)
     }
+}
+
+/// The column that is marked, from 1 on, where one is.
+fn column_of(explanation: &Explanation<'_>) -> Option<usize> {
+    let is_marked = explanation.width > 0;
+    is_marked.then_some(explanation.column.saturating_add(1))
+}
+
+/// Warnings, as what explains takes them.
+fn faults_of(alloc: Global, given: &[Warning]) -> Result<Vec<FaultAt>, AllocError> {
+    let mut faults = Vec::new(alloc);
+    for warning in given {
+        faults.push(FaultAt {
+            module: warning.module,
+            line: warning.line,
+            token: None,
+            number: Number::W1,
+        })?;
+    }
+    Ok(faults)
 }

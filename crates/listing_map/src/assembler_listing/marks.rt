@@ -3,6 +3,7 @@
 //! The code of a statement stands in one piece, and what ends it can be told: an assignment stores so many values, a CALL calls so many
 //! procedures, a condition ends at the jump that asks it. So statements and code are gone through side by side.
 
+use crate::noted::Noted;
 use icode::Instruction;
 use plm_decl::{Binding, Expression, Location, Operation, Reference, Selector, Statement};
 use plm_syntax::Position;
@@ -190,23 +191,21 @@ struct Walk<'c> {
     instructions: &'c [Instruction],
     endless: &'c [bool],
     at: usize,
-    marks: Vec<Mark>,
+    marks: Noted<Mark>,
 }
 
 impl Walk<'_> {
-    fn mark(&mut self, place: Position) -> Result<(), AllocError> {
-        self.marks.push(Mark {
+    fn mark(&mut self, place: Position) {
+        self.marks.add(Mark {
             index: self.at,
             line: Some(place.line),
-        })?;
-        Ok(())
+        });
     }
 
     /// Notes that a statement begins, and goes on behind the next instruction of a sort, so many times.
-    fn mark_behind(&mut self, place: Position, sort: Sort, times: usize) -> Result<(), AllocError> {
-        self.mark(place)?;
+    fn mark_behind(&mut self, place: Position, sort: Sort, times: usize) {
+        self.mark(place);
         self.behind(sort, times);
-        Ok(())
     }
 
     /// Goes on over so many instructions.
@@ -294,51 +293,45 @@ fn first_place(targets: &[Reference]) -> Position {
 }
 
 #[cycle(walking)]
-fn walk_statements(trees: &[Statement], walk: &mut Walk<'_>) -> Result<(), AllocError> {
+fn walk_statements(trees: &[Statement], walk: &mut Walk<'_>) {
     for tree in trees {
-        walk_statement(tree, walk)?;
+        walk_statement(tree, walk);
     }
-    Ok(())
 }
 
 /// Each case ends in a jump behind them all.
 #[cycle(walking)]
-fn walk_cases(trees: &[Statement], walk: &mut Walk<'_>) -> Result<(), AllocError> {
+fn walk_cases(trees: &[Statement], walk: &mut Walk<'_>) {
     for tree in trees {
-        walk_statement(tree, walk)?;
+        walk_statement(tree, walk);
         walk.over(1);
     }
-    Ok(())
 }
 
 /// DO WHILE: its test, if there is one, its statements, and the jump back.
 #[cycle(walking)]
-fn walk_while(trees: &[Statement], place: Position, walk: &mut Walk<'_>) -> Result<(), AllocError> {
+fn walk_while(trees: &[Statement], place: Position, walk: &mut Walk<'_>) {
     if walk.is_next_endless() {
-        walk.mark(place)?;
+        walk.mark(place);
     } else {
-        walk.mark_behind(place, Sort::Asks, 1)?;
+        walk.mark_behind(place, Sort::Asks, 1);
     }
-    walk_statements(trees, walk)?;
+    walk_statements(trees, walk);
     walk.mark_behind(place, Sort::Other, 1)
 }
 
 /// DO with an index: what comes before its rounds, its statements, and what ends a round.
 #[cycle(walking)]
-fn walk_iterate(
-    trees: &[Statement],
-    place: Position,
-    walk: &mut Walk<'_>,
-) -> Result<(), AllocError> {
-    walk.mark_behind(place, Sort::Asks, 1)?;
-    walk_statements(trees, walk)?;
+fn walk_iterate(trees: &[Statement], place: Position, walk: &mut Walk<'_>) {
+    walk.mark_behind(place, Sort::Asks, 1);
+    walk_statements(trees, walk);
     walk.mark_behind(place, Sort::AsksBack, 1)
 }
 
 #[cycle(walking)]
-fn walk_statement(tree: &Statement, walk: &mut Walk<'_>) -> Result<(), AllocError> {
+fn walk_statement(tree: &Statement, walk: &mut Walk<'_>) {
     match tree {
-        Statement::Empty(_) => Ok(()),
+        Statement::Empty(_) => {}
         Statement::Assign(targets, value) => {
             let tally = of_expression(value).and(of_targets(targets));
             walk.mark_behind(first_place(targets), Sort::Store, tally.stores)
@@ -353,19 +346,19 @@ fn walk_statement(tree: &Statement, walk: &mut Walk<'_>) -> Result<(), AllocErro
             walk.mark_behind(*place, Sort::Other, 1)
         }
         Statement::If(place, _, arm) => {
-            walk.mark_behind(*place, Sort::Asks, 1)?;
+            walk.mark_behind(*place, Sort::Asks, 1);
             walk_statement(arm, walk)
         }
         Statement::IfElse(place, _, arm, otherwise) => {
-            walk.mark_behind(*place, Sort::Asks, 1)?;
-            walk_statement(arm, walk)?;
+            walk.mark_behind(*place, Sort::Asks, 1);
+            walk_statement(arm, walk);
             walk.over_jump(otherwise);
             walk_statement(otherwise, walk)
         }
         Statement::Do(_, statements) => walk_statements(statements, walk),
         Statement::While(place, _, statements) => walk_while(statements, *place, walk),
         Statement::Case(place, _, statements) => {
-            walk.mark_behind(*place, Sort::Cases, 1)?;
+            walk.mark_behind(*place, Sort::Cases, 1);
             walk.over(statements.len().saturating_add(1));
             walk_cases(statements, walk)
         }
@@ -378,7 +371,7 @@ pub(crate) fn marks_of(
     trees: &[Statement],
     endless: &[bool],
     instructions: &[Instruction],
-    marks: Vec<Mark>,
+    marks: Noted<Mark>,
 ) -> Result<Vec<Mark>, AllocError> {
     let mut walk = Walk {
         instructions,
@@ -386,16 +379,16 @@ pub(crate) fn marks_of(
         at: 0,
         marks,
     };
-    walk_statements(trees, &mut walk)?;
+    walk_statements(trees, &mut walk);
     let Walk {
         instructions: _,
         endless: _,
         at,
         mut marks,
     } = walk;
-    marks.push(Mark {
+    marks.add(Mark {
         index: at,
         line: None,
-    })?;
-    Ok(marks)
+    });
+    marks.whole()
 }

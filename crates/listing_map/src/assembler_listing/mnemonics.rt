@@ -1,11 +1,12 @@
 //! Instructions as they are written: Intel's names, the target first, an operand in memory in brackets, its segment where it is not the one
 //! that its address goes with, numbers in hexadecimal with an H behind them.
 
+use crate::noted::Noted;
+use crate::numerals::{hex_byte, hex_word};
 use i86_table::{
     Address, AluOperation, Base, Condition, Count, Instr, Memory, Operands, Port, Register8,
     Register16, Repeat, RmOperand, Segment, ShiftOperation, Signedness, TestMask, UnaryOperation,
 };
-use std::alloc::{AllocError, Global};
 use word86::Width;
 
 /// An operand.
@@ -565,22 +566,21 @@ fn spelling_of(instruction: Instr, next: u16) -> Spelled {
     alone(instruction).unwrap_or(bare(""))
 }
 
-/// Adds a number of so many digits, with a zero before a letter.
-pub(crate) fn put_number(
-    alloc: Global,
-    text: &mut Vec<u8>,
-    number: u16,
-    width: Width,
-) -> Result<(), AllocError> {
-    let digits = match width {
-        Width::Byte => format!(in alloc; "{number:02X}H")?,
-        Width::Word => format!(in alloc; "{number:04X}H")?,
-    };
-    let digits = digits.as_str().as_bytes();
-    if let [b'A'..=b'F', ..] = digits {
-        text.push(b'0')?;
+/// Adds a number of so many digits.
+pub(crate) fn put_number(text: &mut Noted<u8>, number: u16, width: Width) {
+    match width {
+        Width::Byte => put_digits(text, &hex_byte((number % 0x100) as u8)),
+        Width::Word => put_digits(text, &hex_word(number)),
     }
-    text.extend_from_slice(digits)
+}
+
+/// Adds digits, with a zero before a letter, and an H.
+fn put_digits(text: &mut Noted<u8>, digits: &[u8]) {
+    if let [b'A'..=b'F', ..] = digits {
+        text.add(b'0');
+    }
+    text.put(digits);
+    text.add(b'H');
 }
 
 fn base_name(base: Base) -> &'static str {
@@ -607,53 +607,51 @@ fn own_segment(address: Address) -> Segment {
     }
 }
 
-fn put_address(alloc: Global, text: &mut Vec<u8>, address: Address) -> Result<(), AllocError> {
+fn put_address(text: &mut Noted<u8>, address: Address) {
     match address {
-        Address::Direct(offset) => put_number(alloc, text, offset, Width::Word),
+        Address::Direct(offset) => put_number(text, offset, Width::Word),
         Address::Based { base, displacement } => {
-            text.extend_from_slice(base_name(base).as_bytes())?;
+            text.put(base_name(base).as_bytes());
             if displacement == 0 {
-                return Ok(());
+                return;
             }
             let is_back = displacement >= 0xFF80;
-            text.push(if is_back { b'-' } else { b'+' })?;
+            text.add(if is_back { b'-' } else { b'+' });
             let distance = if is_back {
                 displacement.wrapping_neg()
             } else {
                 displacement
             };
-            put_number(alloc, text, distance, Width::Word)
+            put_number(text, distance, Width::Word)
         }
     }
 }
 
-fn put_memory(alloc: Global, text: &mut Vec<u8>, memory: Memory) -> Result<(), AllocError> {
-    text.push(b'[')?;
+fn put_memory(text: &mut Noted<u8>, memory: Memory) {
+    text.add(b'[');
     if memory.segment != own_segment(memory.address) {
-        text.extend_from_slice(segment_name(memory.segment).as_bytes())?;
-        text.push(b':')?;
+        text.put(segment_name(memory.segment).as_bytes());
+        text.add(b':');
     }
-    put_address(alloc, text, memory.address)?;
-    text.push(b']')?;
-    Ok(())
+    put_address(text, memory.address);
+    text.add(b']');
 }
 
-fn put_operand(alloc: Global, text: &mut Vec<u8>, operand: Operand) -> Result<(), AllocError> {
+fn put_operand(text: &mut Noted<u8>, operand: Operand) {
     match operand {
-        Operand::Register(name) => text.extend_from_slice(name.as_bytes()),
-        Operand::Memory(memory) => put_memory(alloc, text, memory),
+        Operand::Register(name) => text.put(name.as_bytes()),
+        Operand::Memory(memory) => put_memory(text, memory),
         Operand::Offset(address) => {
-            text.push(b'[')?;
-            put_address(alloc, text, address)?;
-            text.push(b']')?;
-            Ok(())
+            text.add(b'[');
+            put_address(text, address);
+            text.add(b']');
         }
-        Operand::Byte(number) => put_number(alloc, text, u16::from(number), Width::Byte),
-        Operand::Word(number) => put_number(alloc, text, number, Width::Word),
+        Operand::Byte(number) => put_number(text, u16::from(number), Width::Byte),
+        Operand::Word(number) => put_number(text, number, Width::Word),
         Operand::Far(segment, offset) => {
-            put_number(alloc, text, segment, Width::Word)?;
-            text.push(b':')?;
-            put_number(alloc, text, offset, Width::Word)
+            put_number(text, segment, Width::Word);
+            text.add(b':');
+            put_number(text, offset, Width::Word)
         }
     }
 }
@@ -692,28 +690,22 @@ fn wants_width(spelled: Spelled) -> bool {
 }
 
 /// Adds an instruction, behind which the next one has this offset.
-pub(crate) fn put_instruction(
-    alloc: Global,
-    text: &mut Vec<u8>,
-    instruction: Instr,
-    next: u16,
-) -> Result<(), AllocError> {
+pub(crate) fn put_instruction(text: &mut Noted<u8>, instruction: Instr, next: u16) {
     let spelled = spelling_of(instruction, next);
-    text.extend_from_slice(spelled.before.as_bytes())?;
-    text.extend_from_slice(spelled.name.as_bytes())?;
+    text.put(spelled.before.as_bytes());
+    text.put(spelled.name.as_bytes());
     if let Some(first) = spelled.first {
-        text.push(b' ')?;
+        text.add(b' ');
         if wants_width(spelled) {
-            text.extend_from_slice(match spelled.width {
+            text.put(match spelled.width {
                 Width::Byte => b"BYTE ".as_slice(),
                 Width::Word => b"WORD ".as_slice(),
-            })?;
+            });
         }
-        put_operand(alloc, text, first)?;
+        put_operand(text, first);
     }
     if let Some(second) = spelled.second {
-        text.push(b',')?;
-        put_operand(alloc, text, second)?;
+        text.add(b',');
+        put_operand(text, second);
     }
-    Ok(())
 }

@@ -1,7 +1,7 @@
 //! Which DO WHILE of a routine have no test in its code: those whose condition is a constant that holds.
 
+use crate::noted::Noted;
 use plm_type::{Expression, Statement};
-use std::alloc::AllocError;
 
 /// Whether a condition is a constant that holds. An operator is none, even where its value is known.
 fn always(condition: &Expression) -> bool {
@@ -22,14 +22,14 @@ fn always(condition: &Expression) -> bool {
 }
 
 #[cycle(rounds)]
-fn note(tree: &Statement, endless: &mut Vec<bool>) -> Result<(), AllocError> {
+fn note(tree: &Statement, endless: &mut Noted<bool>) {
     match tree {
         Statement::While(condition, body) => {
-            endless.push(always(condition))?;
+            endless.add(always(condition));
             note_all(body, endless)
         }
         Statement::If(_, arm, otherwise) => {
-            note_all(arm, endless)?;
+            note_all(arm, endless);
             note_all(otherwise, endless)
         }
         Statement::Block(body) | Statement::Case(_, body) => note_all(body, endless),
@@ -41,18 +41,14 @@ fn note(tree: &Statement, endless: &mut Vec<bool>) -> Result<(), AllocError> {
         | Statement::ReturnValue(_, _)
         | Statement::Enable
         | Statement::Disable
-        | Statement::Halt => Ok(()),
+        | Statement::Halt => {}
     }
 }
 
 /// Adds for each DO WHILE of these statements, in the order of the source, whether its condition is a constant that holds.
 #[cycle(rounds)]
-pub(crate) fn note_all(
-    trees: &[Box<Statement>],
-    endless: &mut Vec<bool>,
-) -> Result<(), AllocError> {
+pub(crate) fn note_all(trees: &[Box<Statement>], endless: &mut Noted<bool>) {
     for tree in trees {
-        note(tree, endless)?;
+        note(tree, endless);
     }
-    Ok(())
 }

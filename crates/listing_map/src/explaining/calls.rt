@@ -6,7 +6,8 @@ use crate::explaining::reached::{
 };
 use crate::explaining::sentence::{Part, put_all_parts, sentence};
 use crate::explaining::studied::{Studied, number_at};
-use crate::explaining::told::{Told, tell};
+use crate::explaining::told::{Told, tell_so};
+use crate::noted::Noted;
 use crate::phase_faults::TokenAt;
 use plm_decl::{Names, Procedure};
 use plm_syntax::{Linkage, Position};
@@ -27,12 +28,12 @@ pub(crate) struct Calls {
 
 /// What a procedure does: an EXTERNAL one has no statements of its own.
 fn sites_of(alloc: Global, procedure: &Procedure) -> Result<Vec<Site>, AllocError> {
-    let mut sites: Vec<Site> = Vec::new(alloc);
+    let mut sites: Noted<Site> = Noted::new(alloc);
     match procedure.linkage {
         Linkage::External => {}
-        Linkage::None | Linkage::Public => add_statements(&procedure.body, &mut sites)?,
+        Linkage::None | Linkage::Public => add_statements(&procedure.body, &mut sites),
     }
-    Ok(sites)
+    sites.whole()
 }
 
 /// What the procedures of these names do.
@@ -41,8 +42,9 @@ pub(crate) fn calls_of(alloc: Global, names: &Names) -> Result<Calls, AllocError
     for procedure in &names.procedures {
         bodies.push(sites_of(alloc, procedure)?)?;
     }
-    let mut main: Vec<Site> = Vec::new(alloc);
-    add_statements(&names.main.statements, &mut main)?;
+    let mut main: Noted<Site> = Noted::new(alloc);
+    add_statements(&names.main.statements, &mut main);
+    let main = main.whole()?;
     let distances = distances_of(alloc, names, &bodies)?;
     let first_calls = first_calls_of(alloc, names, &bodies, &main)?;
     Ok(Calls {
@@ -204,14 +206,9 @@ impl<'s, 'a> Calling<'s, 'a> {
     }
 
     /// Adds words and where a token stands, as ` in line 3 of m.plm;`.
-    fn put_line(
-        &self,
-        text: &mut Vec<u8>,
-        module: usize,
-        place: Position,
-    ) -> Result<(), AllocError> {
+    fn put_line(&self, text: &mut Noted<u8>, module: usize, place: Position) {
         let Some(source) = self.sources.get(module) else {
-            return Ok(());
+            return;
         };
         let parts = [
             Part::Words(" in line "),
@@ -220,14 +217,14 @@ impl<'s, 'a> Calling<'s, 'a> {
             Part::Words(source.name),
             Part::Words(";"),
         ];
-        put_all_parts(self.alloc, text, &parts)
+        put_all_parts(text, &parts);
     }
 
     /// Adds that one procedure calls another, and where.
-    fn put_call(&self, text: &mut Vec<u8>, caller: usize, called: usize) -> Result<(), AllocError> {
+    fn put_call(&self, text: &mut Noted<u8>, caller: usize, called: usize) {
         let procedures = self.names.procedures.as_slice();
         let (Some(one), Some(other)) = (procedures.get(caller), procedures.get(called)) else {
-            return Ok(());
+            return;
         };
         let parts = [
             Part::Words(" "),
@@ -235,69 +232,69 @@ impl<'s, 'a> Calling<'s, 'a> {
             Part::Words(" calls "),
             Part::Spelled(self.name_of(other)),
         ];
-        put_all_parts(self.alloc, text, &parts)?;
+        put_all_parts(text, &parts);
         let call = self.call_among(self.sites(caller), called);
-        self.put_line(text, one.module, call.unwrap_or(one.place))
+        self.put_line(text, one.module, call.unwrap_or(one.place));
     }
 
     /// Adds the calls along a path, of a long one the first alone.
-    fn put_path(&self, text: &mut Vec<u8>, path: &[usize]) -> Result<(), AllocError> {
+    fn put_path(&self, text: &mut Noted<u8>, path: &[usize]) {
         let mut before: Option<usize> = None;
         for called in path.iter().take(TOLD.saturating_add(1)) {
             if let Some(caller) = before {
-                self.put_call(text, caller, *called)?;
+                self.put_call(text, caller, *called);
             }
             before = Some(*called);
         }
         if path.len() > TOLD.saturating_add(1) {
-            put_all_parts(self.alloc, text, &[Part::Words(" and so on;")])?;
+            put_all_parts(text, &[Part::Words(" and so on;")]);
         }
-        Ok(())
     }
 
-    fn told(&self, help: &[u8]) -> Result<Told, Fault> {
+    fn told(&self, help: Noted<u8>) -> Told {
         let spot = match self.sources.get(self.module) {
             Some(source) => source.spot(self.token.number),
             None => None,
         };
-        Ok(tell(self.alloc, spot, &[Part::Spelled(help)])?)
+        tell_so(spot, help)
     }
 
     /// What is told of E404.
     pub fn recursion(&self) -> Result<Told, Fault> {
         let name = Part::Spelled(self.name());
-        let mut help = sentence(self.alloc, &[name, Part::Words(" reaches itself:")])?;
+        let mut help = sentence(self.alloc, &[name, Part::Words(" reaches itself:")]);
         if let Some(start) = self.number() {
             self.put_cycle(&mut help, start)?;
         }
         let way = Part::Words(
             " its variables are static, so an array and an index take the place of a stack",
         );
-        put_all_parts(self.alloc, &mut help, &[way])?;
-        self.told(&help)
+        put_all_parts(&mut help, &[way]);
+        Ok(self.told(help))
     }
 
     /// Adds the calls by which a procedure reaches itself.
-    fn put_cycle(&self, text: &mut Vec<u8>, start: usize) -> Result<(), AllocError> {
+    fn put_cycle(&self, text: &mut Noted<u8>, start: usize) -> Result<(), AllocError> {
         let search = self.search(start)?;
         let Some(Some(last)) = search.from.get(start).copied() else {
             return Ok(());
         };
-        self.put_path(text, &search.path(self.alloc, start, last)?)?;
-        self.put_call(text, last, start)
+        self.put_path(text, &search.path(self.alloc, start, last)?);
+        self.put_call(text, last, start);
+        Ok(())
     }
 
     /// What is told of E405.
     pub fn letting_in(&self) -> Result<Told, Fault> {
         let name = Part::Spelled(self.name());
         let rule = Part::Words(" handles an interrupt, in which no other is let in:");
-        let mut help = sentence(self.alloc, &[name, rule])?;
+        let mut help = sentence(self.alloc, &[name, rule]);
         if let Some(start) = self.number() {
             self.put_letting_in(&mut help, start)?;
         }
         let way = Part::Words(" set a BYTE here, and let main wait for it");
-        put_all_parts(self.alloc, &mut help, &[way])?;
-        self.told(&help)
+        put_all_parts(&mut help, &[way]);
+        Ok(self.told(help))
     }
 
     /// The procedure that the first call of one runs which leads nearer to an ENABLE or HALT.
@@ -332,7 +329,7 @@ impl<'s, 'a> Calling<'s, 'a> {
     }
 
     /// Adds the calls that lead from a procedure to an ENABLE or HALT, and its line.
-    fn put_letting_in(&self, text: &mut Vec<u8>, start: usize) -> Result<(), AllocError> {
+    fn put_letting_in(&self, text: &mut Noted<u8>, start: usize) -> Result<(), AllocError> {
         let way = self.way_to_letting_in(start)?;
         let Some(last) = way.last().copied() else {
             return Ok(());
@@ -340,19 +337,15 @@ impl<'s, 'a> Calling<'s, 'a> {
         let Some(place) = letting_in_among(self.sites(last)) else {
             return Ok(());
         };
-        self.put_path(text, &way)?;
-        self.put_has(text, last, place)
+        self.put_path(text, &way);
+        self.put_has(text, last, place);
+        Ok(())
     }
 
     /// Adds that a procedure has the ENABLE or HALT at this token.
-    fn put_has(
-        &self,
-        text: &mut Vec<u8>,
-        number: usize,
-        place: Position,
-    ) -> Result<(), AllocError> {
+    fn put_has(&self, text: &mut Noted<u8>, number: usize, place: Position) {
         let Some(procedure) = self.names.procedures.get(number) else {
-            return Ok(());
+            return;
         };
         let parts = [
             Part::Words(" "),
@@ -360,34 +353,33 @@ impl<'s, 'a> Calling<'s, 'a> {
             Part::Words(" has "),
             Part::Spelled(self.spelled(procedure.module, place.token as usize)),
         ];
-        put_all_parts(self.alloc, text, &parts)?;
-        self.put_line(text, procedure.module, place)
+        put_all_parts(text, &parts);
+        self.put_line(text, procedure.module, place);
     }
 
     /// What is told of E406.
-    pub fn misused(&self) -> Result<Told, Fault> {
+    pub fn misused(&self) -> Told {
         let name = Part::Spelled(self.name());
         let rule = Part::Words(" is entered by its interrupt alone, ");
-        let mut help = sentence(self.alloc, &[name, rule])?;
+        let mut help = sentence(self.alloc, &[name, rule]);
         if let Some(number) = self.number() {
-            self.put_misuse(&mut help, number)?;
+            self.put_misuse(&mut help, number);
         }
-        self.told(&help)
+        self.told(help)
     }
 
     /// Adds how an interrupt procedure is misused.
-    fn put_misuse(&self, text: &mut Vec<u8>, number: usize) -> Result<(), AllocError> {
+    fn put_misuse(&self, text: &mut Noted<u8>, number: usize) {
         let Some(procedure) = self.names.procedures.get(number) else {
-            return Ok(());
+            return;
         };
         if !procedure.parameters.is_empty() {
-            let words = Part::Words("and takes no parameters");
-            return put_all_parts(self.alloc, text, &[words]);
+            put_all_parts(text, &[Part::Words("and takes no parameters")]);
+        } else if procedure.returned.is_some() {
+            put_all_parts(text, &[Part::Words("and has no value")]);
+        } else {
+            self.put_caller(text, number);
         }
-        if procedure.returned.is_some() {
-            return put_all_parts(self.alloc, text, &[Part::Words("and has no value")]);
-        }
-        self.put_caller(text, number)
     }
 
     /// The first call of a procedure: in its own module, else in another one.
@@ -399,13 +391,13 @@ impl<'s, 'a> Calling<'s, 'a> {
     }
 
     /// Adds where an interrupt procedure is called.
-    fn put_caller(&self, text: &mut Vec<u8>, number: usize) -> Result<(), AllocError> {
-        put_all_parts(self.alloc, text, &[Part::Words("and not by CALL")])?;
+    fn put_caller(&self, text: &mut Noted<u8>, number: usize) {
+        put_all_parts(text, &[Part::Words("and not by CALL")]);
         let Some(call) = self.first_call(number) else {
-            return Ok(());
+            return;
         };
         let Some(source) = self.sources.get(call.module) else {
-            return Ok(());
+            return;
         };
         let parts = [
             Part::Words(", as line "),
@@ -414,6 +406,6 @@ impl<'s, 'a> Calling<'s, 'a> {
             Part::Words(source.name),
             Part::Words(" does: both can call a third procedure"),
         ];
-        put_all_parts(self.alloc, text, &parts)
+        put_all_parts(text, &parts);
     }
 }

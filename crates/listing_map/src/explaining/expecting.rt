@@ -2,12 +2,11 @@
 
 use crate::explaining::candidates::{Candidate, candidates};
 use crate::explaining::sentence::{Part, put_all_parts, separator};
-use crate::explaining::studied::{copied, number_of, numbered_token};
+use crate::explaining::studied::{copied, number_of, numbered_token, unparsed_among};
 use crate::explaining::uses::{Use, use_of};
-use plm_syntax::parse;
+use crate::noted::Noted;
 use plm_token::{Keyword, Kind, Mark, Token};
 use std::alloc::{AllocError, Global};
-use word86::Fault;
 
 /// Tokens that have a name together.
 #[derive(Clone, Copy, PartialEq, Eq)]
@@ -74,22 +73,25 @@ impl Family {
 }
 
 /// Whether the parser takes this token after these, whose lines are their numbers.
-fn can_stand(alloc: Global, before: &[Token<'_>], candidate: &Candidate) -> Result<bool, Fault> {
+fn can_stand(
+    alloc: Global,
+    before: &[Token<'_>],
+    candidate: &Candidate,
+) -> Result<bool, AllocError> {
     let tried = numbered_token(candidate.kind, candidate.text.as_bytes(), before.len());
     let mut tokens = copied(alloc, before)?;
     tokens.push(tried)?;
     let count = tokens.len();
     // A refusal of the text's end has its number.
     tokens.push(numbered_token(Kind::Special(Mark::Semicolon), b";", count))?;
-    match parse(alloc, tokens) {
-        Ok(_) => Ok(true),
-        Err(Fault::At(_, refused, _)) => Ok(number_of(&tried) < refused),
-        Err(Fault::Memory) => Err(Fault::Memory),
+    match unparsed_among(alloc, tokens)? {
+        Some(refused) => Ok(number_of(&tried) < refused),
+        None => Ok(true),
     }
 }
 
 /// The tokens that can stand after these.
-pub(crate) fn expected(alloc: Global, before: &[Token<'_>]) -> Result<Vec<Candidate>, Fault> {
+pub(crate) fn expected(alloc: Global, before: &[Token<'_>]) -> Result<Vec<Candidate>, AllocError> {
     let mut all = Vec::new(alloc);
     for candidate in candidates(alloc)? {
         if can_stand(alloc, before, &candidate)? {
@@ -148,20 +150,20 @@ fn entries(alloc: Global, candidates: &[Candidate]) -> Result<Vec<Entry>, AllocE
     Ok(all)
 }
 
-fn put_entry(alloc: Global, text: &mut Vec<u8>, entry: Entry) -> Result<(), AllocError> {
-    let Entry::Token(candidate) = entry else {
-        let Entry::Family(name) = entry else {
-            return Ok(());
-        };
-        return put_all_parts(alloc, text, &[Part::Words(name)]);
-    };
+fn put_entry(text: &mut Noted<u8>, entry: Entry) {
+    match entry {
+        Entry::Family(name) => put_all_parts(text, &[Part::Words(name)]),
+        Entry::Token(candidate) => put_candidate(text, candidate),
+    }
+}
+
+fn put_candidate(text: &mut Noted<u8>, candidate: Candidate) {
     match candidate.kind {
-        Kind::Identifier => put_all_parts(alloc, text, &[Part::Words("a name")]),
-        Kind::Numeral(_) => put_all_parts(alloc, text, &[Part::Words("a number")]),
-        Kind::String => put_all_parts(alloc, text, &[Part::Words("a string")]),
-        Kind::Reserved(_) => put_all_parts(alloc, text, &[Part::Words(candidate.text)]),
+        Kind::Identifier => put_all_parts(text, &[Part::Words("a name")]),
+        Kind::Numeral(_) => put_all_parts(text, &[Part::Words("a number")]),
+        Kind::String => put_all_parts(text, &[Part::Words("a string")]),
+        Kind::Reserved(_) => put_all_parts(text, &[Part::Words(candidate.text)]),
         Kind::Special(_) => put_all_parts(
-            alloc,
             text,
             &[
                 Part::Words("\""),
@@ -172,14 +174,20 @@ fn put_entry(alloc: Global, text: &mut Vec<u8>, entry: Entry) -> Result<(), Allo
     }
 }
 
-/// These tokens as a list, as `"=" or "("`.
-pub(crate) fn listed(alloc: Global, candidates: &[Candidate]) -> Result<Vec<u8>, AllocError> {
-    let mut text = Vec::new(alloc);
+/// Adds these tokens as a list, as `"=" or "("`.
+pub(crate) fn put_listed(
+    alloc: Global,
+    text: &mut Noted<u8>,
+    candidates: &[Candidate],
+) -> Result<(), AllocError> {
     let entries = entries(alloc, candidates)?;
+    if entries.is_empty() {
+        put_all_parts(text, &[Part::Words("nothing")]);
+    }
     for (number, entry) in entries.iter().enumerate() {
         let between = separator(number, entries.len(), " or ");
-        put_all_parts(alloc, &mut text, &[Part::Words(between)])?;
-        put_entry(alloc, &mut text, *entry)?;
+        put_all_parts(text, &[Part::Words(between)]);
+        put_entry(text, *entry);
     }
-    Ok(text)
+    Ok(())
 }

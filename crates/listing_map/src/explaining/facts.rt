@@ -1,8 +1,8 @@
 //! What a declaration says of a name, by its tokens.
 
 use crate::explaining::sentence::{Part, put_all_parts};
+use crate::noted::Noted;
 use plm_token::{Keyword, Kind, Mark, Token};
-use std::alloc::{AllocError, Global};
 
 /// How many elements a name has.
 #[derive(Clone, Copy, PartialEq, Eq)]
@@ -336,14 +336,10 @@ pub(crate) fn is_based(tokens: &[Token<'_>], at: usize) -> bool {
 }
 
 /// Adds what something of these facts is, as `an array of 10 WORDs`.
-pub(crate) fn put_described(
-    alloc: Global,
-    text: &mut Vec<u8>,
-    facts: &Facts,
-) -> Result<(), AllocError> {
+pub(crate) fn put_described(text: &mut Noted<u8>, facts: &Facts) {
     let based = if facts.is_based { "based " } else { "" };
     match (facts.sort, facts.elements) {
-        (Sort::Procedure(count), _) => put_procedure(alloc, text, count, facts.value),
+        (Sort::Procedure(count), _) => put_procedure(text, count, facts.value),
         (sort, Elements::One) => {
             let article = if facts.is_based { "a " } else { sort.article() };
             let parts = [
@@ -351,7 +347,7 @@ pub(crate) fn put_described(
                 Part::Words(based),
                 Part::Words(sort.name()),
             ];
-            put_all_parts(alloc, text, &parts)
+            put_all_parts(text, &parts);
         }
         (sort, Elements::Many(count)) => {
             let parts = [
@@ -362,7 +358,7 @@ pub(crate) fn put_described(
                 Part::Words(") "),
                 Part::Words(sort.name()),
             ];
-            put_all_parts(alloc, text, &parts)
+            put_all_parts(text, &parts);
         }
         (sort, Elements::AsValues) => {
             let parts = [
@@ -370,17 +366,12 @@ pub(crate) fn put_described(
                 Part::Words("(*) "),
                 Part::Words(sort.name()),
             ];
-            put_all_parts(alloc, text, &parts)
+            put_all_parts(text, &parts);
         }
     }
 }
 
-fn put_procedure(
-    alloc: Global,
-    text: &mut Vec<u8>,
-    count: u64,
-    value: Sort,
-) -> Result<(), AllocError> {
+fn put_procedure(text: &mut Noted<u8>, count: u64, value: Sort) {
     let parts = [
         Part::Words("a procedure with "),
         Part::Number(count),
@@ -405,5 +396,5 @@ fn put_procedure(
             value.name()
         }),
     ];
-    put_all_parts(alloc, text, &parts)
+    put_all_parts(text, &parts);
 }

@@ -2,14 +2,17 @@
 
 use crate::explaining::blocks::{Opening, innermost};
 use crate::explaining::candidates::Candidate;
-use crate::explaining::expecting::{expected, has_kind, listed};
+use crate::explaining::expecting::{expected, has_kind, put_listed};
 use crate::explaining::left_out::{foreign_way, way_round};
+use crate::explaining::pieces::Piece;
 use crate::explaining::scope::{Declared, all_names};
 use crate::explaining::sentence::{Part, put_all_parts, quotation, sentence};
-use crate::explaining::studied::{Studied, copied, number_of, numbered_token, unparsed_token};
-use crate::explaining::told::{Told, tell};
+use crate::explaining::studied::{
+    Studied, copied, number_of, numbered_token, unparsed_among, unparsed_token,
+};
+use crate::explaining::told::{Told, tell, tell_so};
 use crate::explaining::uses::use_of;
-use plm_syntax::parse;
+use crate::noted::Noted;
 use plm_token::{Keyword, Kind, Mark, Token, same_name};
 use std::alloc::{AllocError, Global};
 use word86::Fault;
@@ -285,7 +288,7 @@ fn is_procedure(tokens: &[Token<'_>], name: &[u8]) -> bool {
     false
 }
 
-fn put_opening(alloc: Global, text: &mut Vec<u8>, opening: Opening<'_>) -> Result<(), Fault> {
+fn put_opening(text: &mut Noted<u8>, opening: Opening<'_>) {
     let parts = [
         Part::Words(" the "),
         Part::Spelled(opening.word),
@@ -294,87 +297,64 @@ fn put_opening(alloc: Global, text: &mut Vec<u8>, opening: Opening<'_>) -> Resul
         Part::Words(" of line "),
         Part::Number(u64::from(opening.line)),
     ];
-    Ok(put_all_parts(alloc, text, &parts)?)
+    put_all_parts(text, &parts);
 }
 
 /// Adds a word and what is said of it.
-fn put_word_hint(
-    alloc: Global,
-    text: &mut Vec<u8>,
-    word: &[u8],
-    parts: &[Part<'_>],
-) -> Result<(), Fault> {
-    put_all_parts(alloc, text, &[Part::Words(": "), Part::Spelled(word)])?;
-    Ok(put_all_parts(alloc, text, parts)?)
+fn put_word_hint(text: &mut Noted<u8>, word: &[u8], parts: &[Part<'_>]) {
+    put_all_parts(text, &[Part::Words(": "), Part::Spelled(word)]);
+    put_all_parts(text, parts);
 }
 
 /// Adds that a block is still open.
-fn put_still_open(alloc: Global, text: &mut Vec<u8>, opening: Opening<'_>) -> Result<(), Fault> {
-    put_all_parts(alloc, text, &[Part::Words(":")])?;
-    put_opening(alloc, text, opening)?;
-    Ok(put_all_parts(alloc, text, &[Part::Words(" is still open")])?)
+fn put_still_open(text: &mut Noted<u8>, opening: Opening<'_>) {
+    put_all_parts(text, &[Part::Words(":")]);
+    put_opening(text, opening);
+    put_all_parts(text, &[Part::Words(" is still open")]);
 }
 
-fn put_hint(alloc: Global, text: &mut Vec<u8>, hint: Hint<'_>) -> Result<(), Fault> {
+fn put_hint(text: &mut Noted<u8>, hint: Hint<'_>) {
     match hint {
-        Hint::None => Ok(()),
+        Hint::None => {}
         Hint::Words(words) => {
             let parts = [Part::Words(": "), Part::Words(words)];
-            Ok(put_all_parts(alloc, text, &parts)?)
+            put_all_parts(text, &parts);
         }
         Hint::Way(word, way) => {
             let parts = [Part::Words(" "), Part::Words(way)];
-            put_word_hint(alloc, text, word, &parts)
+            put_word_hint(text, word, &parts);
         }
         Hint::Reserved(word) => {
             let parts = [Part::Words(" is a reserved word and no name")];
-            put_word_hint(alloc, text, word, &parts)
+            put_word_hint(text, word, &parts);
         }
         Hint::Call(name) => {
             let rule = Part::Words(" is a procedure, which CALL ");
             let parts = [rule, Part::Spelled(name), Part::Words(" calls")];
-            put_word_hint(alloc, text, name, &parts)
+            put_word_hint(text, name, &parts);
         }
         Hint::Semicolon(line) => {
             let rule = Part::Words(": a semicolon may be missing at the end of line ");
-            Ok(put_all_parts(alloc, text, &[rule, Part::Number(u64::from(line))])?)
+            put_all_parts(text, &[rule, Part::Number(u64::from(line))]);
         }
-        Hint::Open(opening) => put_still_open(alloc, text, opening),
+        Hint::Open(opening) => put_still_open(text, opening),
         Hint::Closed(opening) => {
-            put_all_parts(alloc, text, &[Part::Words(": this END closes")])?;
-            put_opening(alloc, text, opening)
+            put_all_parts(text, &[Part::Words(": this END closes")]);
+            put_opening(text, opening);
         }
     }
 }
 
 /// How many tokens stand before the one that a source cannot go on with.
-fn refused_after(alloc: Global, source: &Studied<'_>) -> Result<usize, Fault> {
+fn refused_after(alloc: Global, source: &Studied<'_>) -> Result<usize, AllocError> {
     let count = source.tokens.len();
     let mut tokens = copied(alloc, &source.tokens)?;
     // With one more token at its end, a refusal of the text's end has another line than one of its last token.
     tokens.push(numbered_token(Kind::Special(Mark::Semicolon), b";", count))?;
-    match parse(alloc, tokens) {
-        Err(Fault::At(_, number, _)) => Ok((number as usize).saturating_sub(1).min(count)),
-        Ok(_) => Ok(count),
-        Err(Fault::Memory) => Err(Fault::Memory),
+    match unparsed_among(alloc, tokens)? {
+        Some(number) => Ok((number as usize).saturating_sub(1).min(count)),
+        None => Ok(count),
     }
-}
-
-/// Adds what can stand.
-fn put_expected(
-    alloc: Global,
-    text: &mut Vec<u8>,
-    accepted: &[Candidate],
-) -> Result<(), AllocError> {
-    let list = listed(alloc, accepted)?;
-    if list.is_empty() {
-        put_all_parts(alloc, text, &[Part::Words("nothing")])?;
-    }
-    put_all_parts(
-        alloc,
-        text,
-        &[Part::Spelled(&list), Part::Words(" can stand")],
-    )
 }
 
 /// What is said after what was found and what can stand.
@@ -394,13 +374,9 @@ fn hint_for<'a>(
     Ok(refusal.hint())
 }
 
-/// What is told of E201.
-pub(crate) fn syntax_fault(alloc: Global, source: &Studied<'_>) -> Result<Told, Fault> {
-    let before = refused_after(alloc, source)?;
-    let tokens = source.tokens.as_slice();
-    let accepted = expected(alloc, &tokens[..before.min(tokens.len())])?;
-    let spot = source.spots.get(before).copied();
-    let (found, around) = match &spot {
+/// What was found, as far as it is named before what can stand.
+fn found_words(alloc: Global, found: Option<Piece<'_>>) -> Noted<u8> {
+    let (found, around) = match &found {
         Some(piece) => (Part::Spelled(piece.text), quotation(piece.text)),
         None => (Part::Words("the end of the text"), ""),
     };
@@ -411,15 +387,34 @@ pub(crate) fn syntax_fault(alloc: Global, source: &Studied<'_>) -> Result<Told, 
         Part::Words(around),
         Part::Words(", where "),
     ];
-    let mut help = sentence(alloc, &parts)?;
-    put_expected(alloc, &mut help, &accepted)?;
+    sentence(alloc, &parts)
+}
+
+/// What is told of a token behind so many others, where these can stand.
+fn refused_token(
+    alloc: Global,
+    source: &Studied<'_>,
+    before: usize,
+    accepted: &[Candidate],
+) -> Result<Told, Fault> {
+    let spot = source.spots.get(before).copied();
+    let mut help = found_words(alloc, spot);
+    put_listed(alloc, &mut help, accepted)?;
+    put_all_parts(&mut help, &[Part::Words(" can stand")]);
+    put_hint(&mut help, hint_for(alloc, source, before, accepted)?);
     let marked = match spot {
         Some(piece) => Some(piece),
         None => source.spots.last().copied(),
     };
-    let hint = hint_for(alloc, source, before, &accepted)?;
-    put_hint(alloc, &mut help, hint)?;
-    Ok(tell(alloc, marked, &[Part::Spelled(&help)])?)
+    Ok(tell_so(marked, help))
+}
+
+/// What is told of E201.
+pub(crate) fn syntax_fault(alloc: Global, source: &Studied<'_>) -> Result<Told, Fault> {
+    let before = refused_after(alloc, source)?;
+    let tokens = source.tokens.as_slice();
+    let accepted = expected(alloc, &tokens[..before.min(tokens.len())])?;
+    refused_token(alloc, source, before, &accepted)
 }
 
 /// A fault of the token that the parser names.
@@ -468,5 +463,5 @@ pub(crate) fn token_fault(
         Some(piece) => Part::Spelled(piece.text),
         None => Part::Words("what stands here"),
     };
-    Ok(tell(alloc, spot, &[name, Part::Words(words)])?)
+    Ok(tell(alloc, spot, &[name, Part::Words(words)]))
 }

@@ -4,6 +4,7 @@ use crate::explaining::reason::{Reason, Reasoned, Rule, Target, Type, TypeFault,
 use crate::explaining::references::{reference_of, variable_of};
 use crate::explaining::studied::number_at;
 use crate::explaining::value_types::{Typed, Types, beside, paired};
+use crate::noted::Noted;
 use plm_decl::{
     Binding, Builtin, Expression, Form, Location, Operation, Reference, Region, Selector, Variable,
 };
@@ -12,7 +13,6 @@ use plm_type::{
     arity, is_measure, is_target, may_be_arguments, may_count, number_type, operands_fit, takes,
     text_type, unary_fits, wanted_arguments,
 };
-use std::alloc::AllocError;
 
 /// What faults of types are looked for in: a module, with the names by which its expressions are typed.
 #[derive(Clone, Copy)]
@@ -122,20 +122,13 @@ fn is_on_screen(variable: &Variable) -> bool {
 
 impl Looking<'_> {
     /// Notes why there is a fault at a token.
-    fn note(
-        &self,
-        place: Position,
-        fault: TypeFault,
-        reason: Reason,
-        found: &mut Vec<Reasoned>,
-    ) -> Result<(), AllocError> {
-        found.push(Reasoned {
+    fn note(&self, place: Position, fault: TypeFault, reason: Reason, found: &mut Noted<Reasoned>) {
+        found.add(Reasoned {
             module: self.module,
             place: place.token as usize,
             fault,
             reason,
-        })?;
-        Ok(())
+        });
     }
 
     /// Notes a reason for a fault of types at a token, where something holds.
@@ -144,37 +137,27 @@ impl Looking<'_> {
         place: Position,
         holds: bool,
         reason: Reason,
-        found: &mut Vec<Reasoned>,
-    ) -> Result<(), AllocError> {
+        found: &mut Noted<Reasoned>,
+    ) {
         if !holds {
-            return Ok(());
+            return;
         }
         self.note(place, TypeFault::Types, reason, found)
     }
 
     /// Notes the reason for a fault of types at a token, if there is one.
-    pub fn types_for(
-        &self,
-        place: Position,
-        reason: Option<Reason>,
-        found: &mut Vec<Reasoned>,
-    ) -> Result<(), AllocError> {
+    pub fn types_for(&self, place: Position, reason: Option<Reason>, found: &mut Noted<Reasoned>) {
         match reason {
             Some(reason) => self.note(place, TypeFault::Types, reason, found),
-            None => Ok(()),
+            None => {}
         }
     }
 
     /// A number that no INTEGER can have, where a value of this type is wanted.
-    pub fn range(
-        &self,
-        into: Type,
-        value: Typed,
-        found: &mut Vec<Reasoned>,
-    ) -> Result<(), AllocError> {
+    pub fn range(&self, into: Type, value: Typed, found: &mut Noted<Reasoned>) {
         match value.misfit(into) {
             Some(place) => self.types_if(place, true, Reason::LargeInteger, found),
-            None => Ok(()),
+            None => {}
         }
     }
 
@@ -201,8 +184,8 @@ impl Looking<'_> {
         extent: Extent,
         number: usize,
         reference: &Reference,
-        found: &mut Vec<Reasoned>,
-    ) -> Result<(), AllocError> {
+        found: &mut Noted<Reasoned>,
+    ) {
         let reason = self.misshape(extent, number, reference);
         self.types_for(reference.place, reason, found)
     }
@@ -221,17 +204,12 @@ impl Looking<'_> {
     }
 
     /// A store to a name of DATA.
-    pub fn data_if(
-        &self,
-        place: Position,
-        number: usize,
-        found: &mut Vec<Reasoned>,
-    ) -> Result<(), AllocError> {
+    pub fn data_if(&self, place: Position, number: usize, found: &mut Noted<Reasoned>) {
         match self.variable(number) {
             Some(variable) if variable.is_data => {
                 self.note(place, TypeFault::Data, Reason::Broken(Rule::Data), found)
             }
-            Some(_) | None => Ok(()),
+            Some(_) | None => {}
         }
     }
 
@@ -241,10 +219,10 @@ impl Looking<'_> {
         place: Position,
         wanted: usize,
         given: usize,
-        found: &mut Vec<Reasoned>,
-    ) -> Result<(), AllocError> {
+        found: &mut Noted<Reasoned>,
+    ) {
         if wanted == given {
-            return Ok(());
+            return;
         }
         let reason = Reason::Count(wanted, given);
         self.note(place, TypeFault::Arguments, reason, found)
@@ -267,13 +245,12 @@ impl Looking<'_> {
         &self,
         parameters: &[usize],
         arguments: &[Expression],
-        found: &mut Vec<Reasoned>,
-    ) -> Result<(), AllocError> {
+        found: &mut Noted<Reasoned>,
+    ) {
         for (parameter, argument) in parameters.iter().zip(arguments) {
             let into = self.types.variable_type(*parameter);
-            self.range(into, self.types.typed(argument), found)?;
+            self.range(into, self.types.typed(argument), found);
         }
-        Ok(())
     }
 
     /// The first argument that a built-in does not take.
@@ -289,70 +266,50 @@ impl Looking<'_> {
     }
 
     /// A number among the arguments that no INTEGER can have, where the built-in takes one.
-    fn large_operand(
-        &self,
-        taken: Type,
-        arguments: &[Expression],
-        found: &mut Vec<Reasoned>,
-    ) -> Result<(), AllocError> {
+    fn large_operand(&self, taken: Type, arguments: &[Expression], found: &mut Noted<Reasoned>) {
         match arguments {
             [argument, ..] => self.range(taken, self.types.typed(argument), found),
-            [] => Ok(()),
+            [] => {}
         }
     }
 
     /// Why a call of a procedure is faulty, by itself.
-    pub fn call(
-        &self,
-        number: usize,
-        reference: &Reference,
-        found: &mut Vec<Reasoned>,
-    ) -> Result<(), AllocError> {
+    pub fn call(&self, number: usize, reference: &Reference, found: &mut Noted<Reasoned>) {
         let Some(procedure) = self.types.names.procedures.get(number) else {
-            return Ok(());
+            return;
         };
         let parameters = procedure.parameters.as_slice();
         let arguments = reference.subscripts.as_slice();
         let place = reference.place;
-        self.large_arguments(parameters, arguments, found)?;
-        self.count_unless(place, parameters.len(), arguments.len(), found)?;
+        self.large_arguments(parameters, arguments, found);
+        self.count_unless(place, parameters.len(), arguments.len(), found);
         self.types_for(place, self.argument(parameters, arguments), found)
     }
 
     /// Why a procedure is no value.
-    fn called_value(
-        &self,
-        number: usize,
-        reference: &Reference,
-        found: &mut Vec<Reasoned>,
-    ) -> Result<(), AllocError> {
+    fn called_value(&self, number: usize, reference: &Reference, found: &mut Noted<Reasoned>) {
         let has_value = match self.types.names.procedures.get(number) {
             Some(procedure) => procedure.returned.is_some(),
             None => true,
         };
-        self.call(number, reference, found)?;
+        self.call(number, reference, found);
         let reason = Reason::Broken(Rule::NoValue);
         self.types_if(reference.place, !has_value, reason, found)
     }
 
     /// Why a call of a built-in is faulty, by itself.
-    fn builtin_call(
-        &self,
-        builtin: Builtin,
-        reference: &Reference,
-        found: &mut Vec<Reasoned>,
-    ) -> Result<(), AllocError> {
+    fn builtin_call(&self, builtin: Builtin, reference: &Reference, found: &mut Noted<Reasoned>) {
         let place = reference.place;
         let arguments = reference.subscripts.as_slice();
-        self.large_operand(taken_by(builtin), arguments, found)?;
-        self.count_unless(place, arity(builtin), arguments.len(), found)?;
+        self.large_operand(taken_by(builtin), arguments, found);
+        self.count_unless(place, arity(builtin), arguments.len(), found);
         let counted = &arguments[..arity(builtin).min(arguments.len())];
         self.types_for(place, self.builtin_argument(builtin, counted), found)
     }
 
     /// Looks in an expression.
     #[cycle(looking)]
-    pub fn expression(&self, e: &Expression, found: &mut Vec<Reasoned>) -> Result<(), AllocError> {
+    pub fn expression(&self, e: &Expression, found: &mut Noted<Reasoned>) {
         match e {
             Expression::Number(number) => {
                 let holds = number_type(u64::from(number.value)).is_none();
@@ -367,12 +324,12 @@ impl Looking<'_> {
             Expression::Location(location) => self.location(location, found),
             Expression::Parenthesised(_, inner) => self.expression(inner, found),
             Expression::Embedded(place, target, value) => {
-                self.target(target, found)?;
-                self.expression(value, found)?;
+                self.target(target, found);
+                self.expression(value, found);
                 self.embedded(*place, target, value, found)
             }
             Expression::Unary(place, operator, operand) => {
-                self.expression(operand, found)?;
+                self.expression(operand, found);
                 let scalar = self.types.expression(operand);
                 let holds = !unary_fits(*operator, scalar);
                 self.types_if(*place, holds, Reason::Operand(*operator, scalar), found)
@@ -381,7 +338,7 @@ impl Looking<'_> {
                 first: left,
                 others,
             } => {
-                self.expression(left, found)?;
+                self.expression(left, found);
                 self.operations(others, first_place(left), self.types.typed(left), found)
             }
         }
@@ -393,12 +350,12 @@ impl Looking<'_> {
         place: Position,
         target: &Reference,
         value: &Expression,
-        found: &mut Vec<Reasoned>,
-    ) -> Result<(), AllocError> {
+        found: &mut Noted<Reasoned>,
+    ) {
         let into = self.types.value(target);
         let value = self.types.typed(value);
         let kept = value.wanted(into).scalar;
-        self.range(into, value, found)?;
+        self.range(into, value, found);
         let reason = Reason::Store(target_of(target), into, kept);
         self.types_if(place, !takes(into, kept), reason, found)
     }
@@ -409,12 +366,12 @@ impl Looking<'_> {
         operation: &Operation,
         begin: Position,
         left: Typed,
-        found: &mut Vec<Reasoned>,
-    ) -> Result<(), AllocError> {
+        found: &mut Noted<Reasoned>,
+    ) {
         let operator = operation.operator;
         let right = self.types.typed(&operation.operand);
-        self.range(beside(operator, right.scalar), left, found)?;
-        self.range(beside(operator, left.scalar), right, found)?;
+        self.range(beside(operator, right.scalar), left, found);
+        self.range(beside(operator, left.scalar), right, found);
         let (one, other) = paired(operator, left, right);
         let holds = !operands_fit(operator, one.scalar, other.scalar);
         let reason = Reason::Operands(operator, one.scalar, other.scalar);
@@ -428,93 +385,82 @@ impl Looking<'_> {
         operations: &[Operation],
         begin: Position,
         left: Typed,
-        found: &mut Vec<Reasoned>,
-    ) -> Result<(), AllocError> {
+        found: &mut Noted<Reasoned>,
+    ) {
         let mut value = left;
         for operation in operations {
-            self.expression(&operation.operand, found)?;
-            self.operator(operation, begin, value, found)?;
+            self.expression(&operation.operand, found);
+            self.operator(operation, begin, value, found);
             value = self.types.operation(operation, value);
         }
-        Ok(())
     }
 
     /// Looks in expressions, one after another.
     #[cycle(looking)]
-    pub fn list(&self, es: &[Expression], found: &mut Vec<Reasoned>) -> Result<(), AllocError> {
+    pub fn list(&self, es: &[Expression], found: &mut Noted<Reasoned>) {
         for e in es {
-            self.expression(e, found)?;
+            self.expression(e, found);
         }
-        Ok(())
     }
 
     /// Looks in subscripts or arguments, and in a member's subscript.
     #[cycle(looking)]
-    fn parts(&self, reference: &Reference, found: &mut Vec<Reasoned>) -> Result<(), AllocError> {
-        self.list(&reference.subscripts, found)?;
+    fn parts(&self, reference: &Reference, found: &mut Noted<Reasoned>) {
+        self.list(&reference.subscripts, found);
         match &reference.selector {
-            Selector::None | Selector::Member(_, _) => Ok(()),
+            Selector::None | Selector::Member(_, _) => {}
             Selector::Element(_, _, subscript) => self.expression(subscript, found),
         }
     }
 
     /// Looks in a reference as a value.
     #[cycle(looking)]
-    fn value(&self, reference: &Reference, found: &mut Vec<Reasoned>) -> Result<(), AllocError> {
+    fn value(&self, reference: &Reference, found: &mut Noted<Reasoned>) {
         match reference.binding {
             Binding::Variable(number) => {
-                self.parts(reference, found)?;
+                self.parts(reference, found);
                 self.shape(Extent::Whole, number, reference, found)
             }
             Binding::Procedure(number) => {
-                self.parts(reference, found)?;
+                self.parts(reference, found);
                 self.called_value(number, reference, found)
             }
             Binding::Builtin(builtin) => {
                 let reason = Reason::Broken(Rule::TargetAsValue);
-                self.types_if(reference.place, is_target(builtin), reason, found)?;
+                self.types_if(reference.place, is_target(builtin), reason, found);
                 self.applied(builtin, reference, found)
             }
-            Binding::Nothing => Ok(()),
+            Binding::Nothing => {}
         }
     }
 
     /// Looks in a call of a built-in.
     #[cycle(looking)]
-    fn applied(
-        &self,
-        builtin: Builtin,
-        reference: &Reference,
-        found: &mut Vec<Reasoned>,
-    ) -> Result<(), AllocError> {
+    fn applied(&self, builtin: Builtin, reference: &Reference, found: &mut Noted<Reasoned>) {
         if is_measure(builtin) {
             let place = reference.place;
-            self.count_unless(place, 1, reference.subscripts.len(), found)?;
-            self.measured(&reference.subscripts, found)?;
+            self.count_unless(place, 1, reference.subscripts.len(), found);
+            self.measured(&reference.subscripts, found);
             let holds = !measures_variable(&reference.subscripts);
             return self.types_if(place, holds, Reason::Broken(Rule::Measured), found);
         }
-        self.list(&reference.subscripts, found)?;
+        self.list(&reference.subscripts, found);
         self.builtin_call(builtin, reference, found)
     }
 
     /// Looks in the argument of LENGTH, LAST or SIZE.
     #[cycle(looking)]
-    fn measured(
-        &self,
-        arguments: &[Expression],
-        found: &mut Vec<Reasoned>,
-    ) -> Result<(), AllocError> {
+    fn measured(&self, arguments: &[Expression], found: &mut Noted<Reasoned>) {
         let [argument] = arguments else {
-            return Ok(());
+            return;
         };
         match argument {
             Expression::Reference(reference) => match variable_of(reference.binding) {
                 Some(number) => {
-                    self.parts(reference, found)?;
+                    self.parts(reference, found);
                     self.shape(Extent::Part, number, reference, found)
                 }
-                None => Ok(()),
+                None => {}
             },
             Expression::Number(_)
             | Expression::Text(_, _)
@@ -522,31 +468,22 @@ impl Looking<'_> {
             | Expression::Parenthesised(_, _)
             | Expression::Embedded(_, _, _)
             | Expression::Unary(_, _, _)
-            | Expression::Chain { .. } => Ok(()),
+            | Expression::Chain { .. } => {}
         }
     }
 
     /// Looks in a location.
     #[cycle(looking)]
-    pub fn location(
-        &self,
-        location: &Location,
-        found: &mut Vec<Reasoned>,
-    ) -> Result<(), AllocError> {
+    pub fn location(&self, location: &Location, found: &mut Noted<Reasoned>) {
         match location {
             Location::Reference(place, _, reference) => self.located(*place, reference, found),
-            Location::Constants(_, _, _) => Ok(()),
+            Location::Constants(_, _, _) => {}
         }
     }
 
     /// Looks in the location of what a reference names.
     #[cycle(looking)]
-    fn located(
-        &self,
-        place: Position,
-        reference: &Reference,
-        found: &mut Vec<Reasoned>,
-    ) -> Result<(), AllocError> {
+    fn located(&self, place: Position, reference: &Reference, found: &mut Noted<Reasoned>) {
         let Some(number) = variable_of(reference.binding) else {
             return self.types_if(place, true, Reason::Broken(Rule::NoLocation), found);
         };
@@ -554,37 +491,33 @@ impl Looking<'_> {
             Some(variable) => is_on_screen(&variable),
             None => false,
         };
-        self.parts(reference, found)?;
+        self.parts(reference, found);
         let reason = Reason::Broken(Rule::ScreenLocation);
-        self.types_if(place, is_shown, reason, found)?;
+        self.types_if(place, is_shown, reason, found);
         self.shape(Extent::Part, number, reference, found)
     }
 
     /// Looks in a target.
     #[cycle(looking)]
-    pub fn target(
-        &self,
-        reference: &Reference,
-        found: &mut Vec<Reasoned>,
-    ) -> Result<(), AllocError> {
+    pub fn target(&self, reference: &Reference, found: &mut Noted<Reasoned>) {
         let place = reference.place;
         match reference.binding {
             Binding::Variable(number) => {
-                self.parts(reference, found)?;
-                self.data_if(place, number, found)?;
+                self.parts(reference, found);
+                self.data_if(place, number, found);
                 self.shape(Extent::Whole, number, reference, found)
             }
             Binding::Builtin(builtin) => {
-                self.list(&reference.subscripts, found)?;
+                self.list(&reference.subscripts, found);
                 let reason = Reason::Broken(Rule::NoTarget);
-                self.types_if(place, !is_target(builtin), reason, found)?;
+                self.types_if(place, !is_target(builtin), reason, found);
                 self.builtin_call(builtin, reference, found)
             }
             Binding::Procedure(_) => {
                 let reason = Reason::Broken(Rule::ProcedureAsTarget);
                 self.types_if(place, true, reason, found)
             }
-            Binding::Nothing => Ok(()),
+            Binding::Nothing => {}
         }
     }
 }

@@ -5,6 +5,7 @@ use crate::explaining::reason::{Reason, Reasoned, Rule, Target, Type, first};
 use crate::explaining::references::variable_of;
 use crate::explaining::studied::number_at;
 use crate::explaining::value_types::Types;
+use crate::noted::Noted;
 use plm_decl::{Binding, Bounds, Expression, Names, Procedure, Reference, Region, Statement};
 use plm_syntax::{Linkage, Numeral, Position, UnaryOperator};
 use plm_type::{is_integer, may_be_number, may_count, takes};
@@ -87,13 +88,8 @@ fn signed_step(e: &Expression) -> Option<Step> {
 
 impl Looking<'_> {
     /// A condition.
-    fn condition(
-        &self,
-        place: Position,
-        e: &Expression,
-        found: &mut Vec<Reasoned>,
-    ) -> Result<(), AllocError> {
-        self.expression(e, found)?;
+    fn condition(&self, place: Position, e: &Expression, found: &mut Noted<Reasoned>) {
+        self.expression(e, found);
         let scalar = self.types.expression(e);
         self.types_if(
             place,
@@ -104,13 +100,8 @@ impl Looking<'_> {
     }
 
     /// The value of DO CASE.
-    fn case_value(
-        &self,
-        place: Position,
-        e: &Expression,
-        found: &mut Vec<Reasoned>,
-    ) -> Result<(), AllocError> {
-        self.expression(e, found)?;
+    fn case_value(&self, place: Position, e: &Expression, found: &mut Noted<Reasoned>) {
+        self.expression(e, found);
         let holds = !may_count(self.types.expression(e));
         self.types_if(place, holds, Reason::Broken(Rule::CaseValue), found)
     }
@@ -165,48 +156,37 @@ impl Looking<'_> {
         place: Position,
         targets: &[Reference],
         value: &Expression,
-        found: &mut Vec<Reasoned>,
-    ) -> Result<(), AllocError> {
+        found: &mut Noted<Reasoned>,
+    ) {
         let into = self.wanted_among(targets);
         let value = self.types.typed(value);
         let kept = value.wanted(into).scalar;
-        self.range(into, value, found)?;
+        self.range(into, value, found);
         let reason = first(self.mixed(targets), self.untaken(targets, kept));
         self.types_for(place, reason, found)
     }
 
     /// Looks in targets, one after another.
-    fn targets(&self, targets: &[Reference], found: &mut Vec<Reasoned>) -> Result<(), AllocError> {
+    fn targets(&self, targets: &[Reference], found: &mut Noted<Reasoned>) {
         for target in targets {
-            self.target(target, found)?;
+            self.target(target, found);
         }
-        Ok(())
     }
 
-    fn assignment(
-        &self,
-        targets: &[Reference],
-        value: &Expression,
-        found: &mut Vec<Reasoned>,
-    ) -> Result<(), AllocError> {
+    fn assignment(&self, targets: &[Reference], value: &Expression, found: &mut Noted<Reasoned>) {
         let place = match targets.first() {
             Some(target) => target.place,
             None => first_place(value),
         };
-        self.targets(targets, found)?;
-        self.expression(value, found)?;
+        self.targets(targets, found);
+        self.expression(value, found);
         self.store(place, targets, value, found)
     }
 
-    fn call_statement(
-        &self,
-        place: Position,
-        reference: &Reference,
-        found: &mut Vec<Reasoned>,
-    ) -> Result<(), AllocError> {
+    fn call_statement(&self, place: Position, reference: &Reference, found: &mut Noted<Reasoned>) {
         match reference.binding {
             Binding::Procedure(number) => {
-                self.list(&reference.subscripts, found)?;
+                self.list(&reference.subscripts, found);
                 self.call(number, reference, found)
             }
             Binding::Variable(_) | Binding::Builtin(_) | Binding::Nothing => {
@@ -216,12 +196,7 @@ impl Looking<'_> {
     }
 
     /// RETURN without a value.
-    fn bare_return(
-        &self,
-        around: Around,
-        place: Position,
-        found: &mut Vec<Reasoned>,
-    ) -> Result<(), AllocError> {
+    fn bare_return(&self, around: Around, place: Position, found: &mut Noted<Reasoned>) {
         match around {
             Around::Main => {
                 self.types_if(place, true, Reason::Broken(Rule::ReturnInMain), found)
@@ -239,14 +214,14 @@ impl Looking<'_> {
         returned: Type,
         place: Position,
         e: &Expression,
-        found: &mut Vec<Reasoned>,
-    ) -> Result<(), AllocError> {
+        found: &mut Noted<Reasoned>,
+    ) {
         if returned.is_none() {
             return self.types_if(place, true, Reason::Broken(Rule::ReturnWithValue), found);
         }
         let value = self.types.typed(e);
         let kept = value.wanted(returned).scalar;
-        self.range(returned, value, found)?;
+        self.range(returned, value, found);
         let reason = Reason::ReturnType(returned, kept);
         self.types_if(place, !takes(returned, kept), reason, found)
     }
@@ -257,9 +232,9 @@ impl Looking<'_> {
         around: Around,
         place: Position,
         e: &Expression,
-        found: &mut Vec<Reasoned>,
-    ) -> Result<(), AllocError> {
-        self.expression(e, found)?;
+        found: &mut Noted<Reasoned>,
+    ) {
+        self.expression(e, found);
         match around {
             Around::Main => {
                 self.types_if(place, true, Reason::Broken(Rule::ReturnInMain), found)
@@ -274,8 +249,8 @@ impl Looking<'_> {
         place: Position,
         name: Position,
         binding: Binding,
-        found: &mut Vec<Reasoned>,
-    ) -> Result<(), AllocError> {
+        found: &mut Noted<Reasoned>,
+    ) {
         let Some(number) = variable_of(binding) else {
             return self.types_if(place, true, Reason::Broken(Rule::Index), found);
         };
@@ -285,7 +260,7 @@ impl Looking<'_> {
         };
         let scalar = self.types.variable_type(number);
         let holds = !is_plain || scalar.is_none() || !may_count(scalar);
-        self.types_if(place, holds, Reason::Broken(Rule::Index), found)?;
+        self.types_if(place, holds, Reason::Broken(Rule::Index), found);
         self.data_if(name, number, found)
     }
 
@@ -300,8 +275,8 @@ impl Looking<'_> {
         place: Position,
         index: (Type, u32),
         e: &Expression,
-        found: &mut Vec<Reasoned>,
-    ) -> Result<(), AllocError> {
+        found: &mut Noted<Reasoned>,
+    ) {
         let (into, name) = index;
         let value = self.types.typed(e);
         let kept = value.wanted(into).scalar;
@@ -310,18 +285,13 @@ impl Looking<'_> {
         } else {
             may_be_number(kept)
         };
-        self.expression(e, found)?;
-        self.range(into, value, found)?;
+        self.expression(e, found);
+        self.range(into, value, found);
         self.types_if(place, !is_taken, Reason::Bound(name, into, kept), found)
     }
 
     /// The step of a DO with an INTEGER index.
-    fn integer_step(
-        &self,
-        place: Position,
-        e: &Expression,
-        found: &mut Vec<Reasoned>,
-    ) -> Result<(), AllocError> {
+    fn integer_step(&self, place: Position, e: &Expression, found: &mut Noted<Reasoned>) {
         match signed_step(e) {
             Some(step) => {
                 let holds = step.number.value > step.greatest;
@@ -333,13 +303,8 @@ impl Looking<'_> {
     }
 
     /// The step of a DO with a BYTE or WORD index.
-    fn plain_step(
-        &self,
-        place: Position,
-        e: &Expression,
-        found: &mut Vec<Reasoned>,
-    ) -> Result<(), AllocError> {
-        self.expression(e, found)?;
+    fn plain_step(&self, place: Position, e: &Expression, found: &mut Noted<Reasoned>) {
+        self.expression(e, found);
         let scalar = self.types.expression(e);
         self.types_if(place, !may_be_number(scalar), Reason::Step(scalar), found)
     }
@@ -350,8 +315,8 @@ impl Looking<'_> {
         place: Position,
         index: Type,
         step: &Option<Expression>,
-        found: &mut Vec<Reasoned>,
-    ) -> Result<(), AllocError> {
+        found: &mut Noted<Reasoned>,
+    ) {
         match step {
             Some(step) => {
                 if is_integer(index) {
@@ -359,7 +324,7 @@ impl Looking<'_> {
                 }
                 self.plain_step(place, step, found)
             }
-            None => Ok(()),
+            None => {}
         }
     }
 
@@ -369,99 +334,79 @@ impl Looking<'_> {
         place: Position,
         name: Position,
         bounds: &Bounds,
-        found: &mut Vec<Reasoned>,
-    ) -> Result<(), AllocError> {
+        found: &mut Noted<Reasoned>,
+    ) {
         let into = self.type_of(bounds.binding);
         let number = number_at(name);
-        self.index(place, name, bounds.binding, found)?;
-        self.bound(place, (into, number), &bounds.from, found)?;
-        self.bound(place, (into, number), &bounds.to, found)?;
+        self.index(place, name, bounds.binding, found);
+        self.bound(place, (into, number), &bounds.from, found);
+        self.bound(place, (into, number), &bounds.to, found);
         self.step(place, into, &bounds.step, found)
     }
 
     #[cycle(looking_statement)]
-    fn statement(
-        &self,
-        statement: &Statement,
-        around: Around,
-        found: &mut Vec<Reasoned>,
-    ) -> Result<(), AllocError> {
+    fn statement(&self, statement: &Statement, around: Around, found: &mut Noted<Reasoned>) {
         match statement {
             Statement::Empty(_)
             | Statement::Enable(_)
             | Statement::Disable(_)
-            | Statement::Halt(_) => Ok(()),
+            | Statement::Halt(_) => {}
             Statement::Assign(targets, value) => self.assignment(targets, value, found),
             Statement::Call(place, reference) => self.call_statement(*place, reference, found),
             Statement::Return(place) => self.bare_return(around, *place, found),
             Statement::ReturnValue(place, value) => { self.returning(around, *place, value, found) }
             Statement::If(place, test, then) => {
-                self.condition(*place, test, found)?;
+                self.condition(*place, test, found);
                 self.statement(then, around, found)
             }
             Statement::IfElse(place, test, then, other) => {
-                self.condition(*place, test, found)?;
-                self.statement(then, around, found)?;
+                self.condition(*place, test, found);
+                self.statement(then, around, found);
                 self.statement(other, around, found)
             }
             Statement::Do(_, body) => self.statements(body, around, found),
             Statement::While(place, test, body) => {
-                self.condition(*place, test, found)?;
+                self.condition(*place, test, found);
                 self.statements(body, around, found)
             }
             Statement::Case(place, value, body) => {
-                self.case_value(*place, value, found)?;
+                self.case_value(*place, value, found);
                 self.statements(body, around, found)
             }
             Statement::Iterate(place, name, bounds, body) => {
-                self.bounds(*place, *name, bounds, found)?;
+                self.bounds(*place, *name, bounds, found);
                 self.statements(body, around, found)
             }
         }
     }
 
     #[cycle(looking_statement)]
-    fn statements(
-        &self,
-        statements: &[Statement],
-        around: Around,
-        found: &mut Vec<Reasoned>,
-    ) -> Result<(), AllocError> {
+    fn statements(&self, statements: &[Statement], around: Around, found: &mut Noted<Reasoned>) {
         for statement in statements {
-            self.statement(statement, around, found)?;
+            self.statement(statement, around, found);
         }
-        Ok(())
     }
 
     /// The parameters of a procedure, where one of them is faulty.
-    fn parameters(
-        &self,
-        parameters: &[usize],
-        found: &mut Vec<Reasoned>,
-    ) -> Result<(), AllocError> {
+    fn parameters(&self, parameters: &[usize], found: &mut Noted<Reasoned>) {
         for parameter in parameters {
             if let Some(variable) = self.types.names.variables.get(*parameter) {
                 let reason = Reason::Broken(Rule::Parameter);
-                self.types_if(variable.place, true, reason, found)?;
+                self.types_if(variable.place, true, reason, found);
             }
         }
-        Ok(())
     }
 
-    fn procedure(
-        &self,
-        procedure: &Procedure,
-        found: &mut Vec<Reasoned>,
-    ) -> Result<(), AllocError> {
+    fn procedure(&self, procedure: &Procedure, found: &mut Noted<Reasoned>) {
         let number = procedure.interrupt.unwrap_or(0);
-        self.parameters(&procedure.parameters, found)?;
+        self.parameters(&procedure.parameters, found);
         let reason = Reason::InterruptNumber(number);
-        self.types_if(procedure.place, number > 0xFF, reason, found)?;
+        self.types_if(procedure.place, number > 0xFF, reason, found);
         if let Some(place) = procedure.stray {
-            self.types_if(place, true, Reason::Broken(Rule::Stray), found)?;
+            self.types_if(place, true, Reason::Broken(Rule::Stray), found);
         }
         match procedure.linkage {
-            Linkage::External => Ok(()),
+            Linkage::External => {}
             Linkage::None | Linkage::Public => {
                 let around = Around::Procedure(procedure.returned);
                 self.statements(&procedure.body, around, found)
@@ -471,34 +416,33 @@ impl Looking<'_> {
 }
 
 /// Adds the reasons of the locations that are declared.
-fn add_locations(types: Types<'_>, found: &mut Vec<Reasoned>) -> Result<(), AllocError> {
+fn add_locations(types: Types<'_>, found: &mut Noted<Reasoned>) {
     for declared in &types.names.locations {
         let module = declared.module;
         let looking = Looking { types, module };
-        looking.location(&declared.location, found)?;
+        looking.location(&declared.location, found);
     }
-    Ok(())
 }
 
 /// Adds the reasons of the procedures.
-fn add_procedures(types: Types<'_>, found: &mut Vec<Reasoned>) -> Result<(), AllocError> {
+fn add_procedures(types: Types<'_>, found: &mut Noted<Reasoned>) {
     for procedure in &types.names.procedures {
         let module = procedure.module;
         let looking = Looking { types, module };
-        looking.procedure(procedure, found)?;
+        looking.procedure(procedure, found);
     }
-    Ok(())
 }
 
 /// Why names have each of their faults of types, in the order of their tokens; at one token in the order in which types are checked.
 pub(crate) fn all_reasons(alloc: Global, names: &Names) -> Result<Vec<Reasoned>, AllocError> {
     let types = Types { names };
-    let mut found: Vec<Reasoned> = Vec::new(alloc);
-    add_locations(types, &mut found)?;
-    add_procedures(types, &mut found)?;
+    let mut noted: Noted<Reasoned> = Noted::new(alloc);
+    add_locations(types, &mut noted);
+    add_procedures(types, &mut noted);
     let module = names.main.module;
     let main = Looking { types, module };
-    main.statements(&names.main.statements, Around::Main, &mut found)?;
+    main.statements(&names.main.statements, Around::Main, &mut noted);
+    let mut found = noted.whole()?;
     found.sort_by_key(|it: &Reasoned| (it.module, it.place))?;
     Ok(found)
 }

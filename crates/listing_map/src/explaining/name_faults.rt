@@ -4,12 +4,13 @@ use crate::explaining::facts::{Elements, Facts, Sort, put_described};
 use crate::explaining::left_out::{foreign_way, way_round};
 use crate::explaining::named::{Entry, LOOKED_AT, Named};
 use crate::explaining::nearest::{nearest, nearest_declared};
-use crate::explaining::program_names::ProgramNames;
+use crate::explaining::program_names::{Other, ProgramNames};
 use crate::explaining::scope::Declared;
 use crate::explaining::sentence::{Part, put_all_parts, sentence, separator};
 use crate::explaining::studied::number_of;
 use crate::explaining::text_faults::wants_suffix;
-use crate::explaining::told::{Told, tell};
+use crate::explaining::told::{Told, tell_so};
+use crate::noted::Noted;
 use crate::phase_faults::TokenAt;
 use plm_token::{Keyword, Kind, Mark, Token};
 use std::alloc::{AllocError, Global};
@@ -55,8 +56,13 @@ impl<'s, 'a> At<'s, 'a> {
         self.named.token(self.token.place.saturating_add(count))
     }
 
-    pub fn told(&self, alloc: Global, parts: &[Part<'_>]) -> Result<Told, Fault> {
-        Ok(tell(alloc, self.named.source.spot(self.token.number), parts)?)
+    pub fn told(&self, alloc: Global, parts: &[Part<'_>]) -> Told {
+        self.told_so(sentence(alloc, parts))
+    }
+
+    /// The same of a sentence.
+    pub fn told_so(&self, help: Noted<u8>) -> Told {
+        tell_so(self.named.source.spot(self.token.number), help)
     }
 }
 
@@ -162,43 +168,46 @@ fn lacking_member<'a>(alloc: Global, at: &At<'_, 'a>, owner: &'a [u8]) -> Result
             Part::Words(" has no member "),
             Part::Spelled(at.name()),
         ],
-    )?;
+    );
     put_members(alloc, &mut help, &own, at.name())?;
-    at.told(alloc, &[Part::Spelled(&help)])
+    Ok(at.told_so(help))
 }
 
-fn put_members(alloc: Global, help: &mut Vec<u8>, own: &[&[u8]], name: &[u8]) -> Result<(), Fault> {
+fn put_members(
+    alloc: Global,
+    help: &mut Noted<u8>,
+    own: &[&[u8]],
+    name: &[u8],
+) -> Result<(), AllocError> {
     if let Some(near) = nearest_declared(alloc, own, name)? {
         let parts = [
             Part::Words("; "),
             Part::Spelled(near),
             Part::Words(" is one"),
         ];
-        return Ok(put_all_parts(alloc, help, &parts)?);
-    }
-    if own.is_empty() {
-        return Ok(());
-    }
-    put_all_parts(alloc, help, &[Part::Words("; it has ")])?;
-    put_listed(alloc, help, own)
-}
-
-/// Adds the first of these members.
-fn put_listed(alloc: Global, help: &mut Vec<u8>, own: &[&[u8]]) -> Result<(), Fault> {
-    let last = if own.len() > LISTED { ", " } else { " and " };
-    let count = own.len().min(LISTED);
-    for (number, member) in own.iter().take(count).enumerate() {
-        let between = separator(number, count, last);
-        put_all_parts(alloc, help, &[Part::Words(between), Part::Spelled(member)])?;
-    }
-    if own.len() > LISTED {
-        put_all_parts(alloc, help, &[Part::Words(" and others")])?;
+        put_all_parts(help, &parts);
+    } else if !own.is_empty() {
+        put_all_parts(help, &[Part::Words("; it has ")]);
+        put_listed(help, own);
     }
     Ok(())
 }
 
+/// Adds the first of these members.
+fn put_listed(help: &mut Noted<u8>, own: &[&[u8]]) {
+    let last = if own.len() > LISTED { ", " } else { " and " };
+    let count = own.len().min(LISTED);
+    for (number, member) in own.iter().take(count).enumerate() {
+        let between = separator(number, count, last);
+        put_all_parts(help, &[Part::Words(between), Part::Spelled(member)]);
+    }
+    if own.len() > LISTED {
+        put_all_parts(help, &[Part::Words(" and others")]);
+    }
+}
+
 /// A name that is declared in the module, and not known where it stands.
-fn known_elsewhere(alloc: Global, at: &At<'_, '_>, declared: &Declared<'_>) -> Result<Told, Fault> {
+fn known_elsewhere(alloc: Global, at: &At<'_, '_>, declared: &Declared<'_>) -> Told {
     let line = u64::from(at.named.source.line(number_of(&declared.token)));
     let words = if at.token.place < declared.at {
         " is declared further down, in line "
@@ -216,22 +225,23 @@ fn known_elsewhere(alloc: Global, at: &At<'_, '_>, declared: &Declared<'_>) -> R
     at.told(alloc, &parts)
 }
 
-/// A name that this module declares nowhere.
-fn declared_nowhere(alloc: Global, at: &At<'_, '_>) -> Result<Told, Fault> {
+/// A name that another module declares PUBLIC.
+fn public_elsewhere<'a>(alloc: Global, at: &At<'_, 'a>, public: &Other<'_, 'a>) -> Told {
+    let parts = [
+        Part::Spelled(at.name()),
+        Part::Words(" is PUBLIC in line "),
+        Part::Number(public.line()),
+        Part::Words(" of "),
+        Part::Words(public.file()),
+        Part::Words(": declare it EXTERNAL here"),
+    ];
+    at.told(alloc, &parts)
+}
+
+/// A name that is declared nowhere, and the one that is most like it, if there is one.
+fn unknown<'a>(alloc: Global, at: &At<'_, 'a>, near: Option<&'a [u8]>) -> Told {
     let name = at.name();
-    if let Some(public) = at.program.public(alloc, name)? {
-        let parts = [
-            Part::Spelled(name),
-            Part::Words(" is PUBLIC in line "),
-            Part::Number(public.line()),
-            Part::Words(" of "),
-            Part::Words(public.file()),
-            Part::Words(": declare it EXTERNAL here"),
-        ];
-        return at.told(alloc, &parts);
-    }
-    let known = at.named.known_at(alloc, at.token.place)?;
-    match nearest(alloc, &known, name)? {
+    match near {
         Some(near) => at.told(
             alloc,
             &[
@@ -253,8 +263,18 @@ fn declared_nowhere(alloc: Global, at: &At<'_, '_>) -> Result<Told, Fault> {
     }
 }
 
+/// A name that this module declares nowhere.
+fn declared_nowhere(alloc: Global, at: &At<'_, '_>) -> Result<Told, Fault> {
+    if let Some(public) = at.program.public(alloc, at.name())? {
+        return Ok(public_elsewhere(alloc, at, &public));
+    }
+    let known = at.named.known_at(alloc, at.token.place)?;
+    let near = nearest(alloc, &known, at.name())?;
+    Ok(unknown(alloc, at, near))
+}
+
 /// A parameter that its procedure does not declare.
-fn undeclared_parameter(alloc: Global, at: &At<'_, '_>) -> Result<Told, Fault> {
+fn undeclared_parameter(alloc: Global, at: &At<'_, '_>) -> Told {
     let name = at.name();
     let parts = [
         Part::Words("the parameter "),
@@ -273,7 +293,7 @@ pub(crate) fn undeclared(alloc: Global, at: &At<'_, '_>) -> Result<Told, Fault> 
         return lacking_member(alloc, at, owner.text);
     }
     if is_parameter(at) {
-        return undeclared_parameter(alloc, at);
+        return Ok(undeclared_parameter(alloc, at));
     }
     if is_like_a_number(name) {
         let parts = [
@@ -282,16 +302,16 @@ pub(crate) fn undeclared(alloc: Global, at: &At<'_, '_>) -> Result<Told, Fault> 
             Part::Spelled(name),
             Part::Words(" is the number"),
         ];
-        return at.told(alloc, &parts);
+        return Ok(at.told(alloc, &parts));
     }
     if let Some(entry) = at.named.first(alloc, name)? {
-        return known_elsewhere(alloc, at, &entry.declared);
+        return Ok(known_elsewhere(alloc, at, &entry.declared));
     }
     match way_of(name) {
-        Some(way) => at.told(
-            alloc,
-            &[Part::Spelled(name), Part::Words(" "), Part::Words(way)],
-        ),
+        Some(way) => {
+            let parts = [Part::Spelled(name), Part::Words(" "), Part::Words(way)];
+            Ok(at.told(alloc, &parts))
+        }
         None => declared_nowhere(alloc, at),
     }
 }
@@ -314,7 +334,7 @@ fn declared_before<'a>(alloc: Global, at: &At<'_, 'a>) -> Result<Option<Entry<'a
 
 /// What is told of E302.
 pub(crate) fn declared_twice(alloc: Global, at: &At<'_, '_>) -> Result<Told, Fault> {
-    match declared_before(alloc, at)? {
+    Ok(match declared_before(alloc, at)? {
         Some(first) => at.told(
             alloc,
             &[
@@ -333,7 +353,7 @@ pub(crate) fn declared_twice(alloc: Global, at: &At<'_, '_>) -> Result<Told, Fau
                 Part::Words(" stands twice in one list: one of the two wants another name"),
             ],
         ),
-    }
+    })
 }
 
 /// Where AT can place a name.
@@ -341,7 +361,7 @@ const PLACES: &str =
     " where AT says: a page of the screen is 0B0000H to 0B0F9FH or 0B8000H to 0B8F9FH, and AT (@V) lies in V's object, in RAM and declared before";
 
 /// What is told of E303. How many bytes `(*)` has, its values say.
-pub(crate) fn misplaced(alloc: Global, at: &At<'_, '_>) -> Result<Told, Fault> {
+pub(crate) fn misplaced(alloc: Global, at: &At<'_, '_>) -> Told {
     let bytes = match at.declared() {
         Some(entry) if entry.facts.elements != Elements::AsValues => entry.facts.bytes(),
         Some(_) | None => {
@@ -376,16 +396,14 @@ fn base_of<'a>(at: &At<'_, 'a>) -> Option<Token<'a>> {
 /// What is told of E304.
 pub(crate) fn bad_base(alloc: Global, at: &At<'_, '_>) -> Result<Told, Fault> {
     let Some(base) = base_of(at) else {
-        return at.told(alloc, &[Part::Words("a base is a plain WORD or POINTER")]);
+        return Ok(at.told(alloc, &[Part::Words("a base is a plain WORD or POINTER")]));
     };
-    let mut help = sentence(
-        alloc,
-        &[
-            Part::Words("the base "),
-            Part::Spelled(base.text),
-            Part::Words(" is "),
-        ],
-    )?;
+    let begin = [
+        Part::Words("the base "),
+        Part::Spelled(base.text),
+        Part::Words(" is "),
+    ];
+    let mut help = sentence(alloc, &begin);
     // A based name is no base of its own: an outer one of its name is.
     match at.named.known_as(alloc, base.text, at.token.place)? {
         Some(entry) => {
@@ -396,15 +414,15 @@ pub(crate) fn bad_base(alloc: Global, at: &At<'_, '_>) -> Result<Told, Fault> {
                         " is based: it lies where its base says, without PUBLIC, EXTERNAL, AT, INITIAL and DATA",
                     ),
                 ];
-                return at.told(alloc, &parts);
+                return Ok(at.told(alloc, &parts));
             }
-            put_described(alloc, &mut help, &entry.facts)?;
+            put_described(&mut help, &entry.facts);
         }
-        None => put_all_parts(alloc, &mut help, &[Part::Words("no variable")])?,
+        None => put_all_parts(&mut help, &[Part::Words("no variable")]),
     }
     let rule = ": a base is a WORD or a POINTER, no array or member and not based itself";
-    put_all_parts(alloc, &mut help, &[Part::Words(rule)])?;
-    at.told(alloc, &[Part::Spelled(&help)])
+    put_all_parts(&mut help, &[Part::Words(rule)]);
+    Ok(at.told_so(help))
 }
 
 fn is_plain_base(facts: &Facts) -> bool {
@@ -417,17 +435,17 @@ fn is_plain_base(facts: &Facts) -> bool {
 }
 
 /// What is told of E305.
-pub(crate) fn values_misfit(alloc: Global, at: &At<'_, '_>) -> Result<Told, Fault> {
+pub(crate) fn values_misfit(alloc: Global, at: &At<'_, '_>) -> Told {
     let Some(entry) = at.declared() else {
         let parts = [Part::Words(
             "a list of constants holds numbers up to 255 and strings, and no location",
         )];
         return at.told(alloc, &parts);
     };
-    let mut help = sentence(alloc, &[Part::Spelled(at.name()), Part::Words(" is ")])?;
-    put_described(alloc, &mut help, &entry.facts)?;
-    put_all_parts(alloc, &mut help, &[Part::Words(values_rule(&entry.facts))])?;
-    at.told(alloc, &[Part::Spelled(&help)])
+    let mut help = sentence(alloc, &[Part::Spelled(at.name()), Part::Words(" is ")]);
+    put_described(&mut help, &entry.facts);
+    put_all_parts(&mut help, &[Part::Words(values_rule(&entry.facts))]);
+    at.told_so(help)
 }
 
 /// The rule that a declaration with these facts breaks.

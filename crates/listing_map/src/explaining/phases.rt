@@ -9,6 +9,7 @@ use crate::explaining::studied::{Studied, names_of, study, trees};
 use crate::phase_faults::{FaultAt, in_order};
 use crate::texts::NamedText;
 use plm_decl::{Names, name_faults};
+use plm_syntax::Module;
 use plm_type::type_faults;
 use std::alloc::{AllocError, Global};
 use word86::Fault;
@@ -38,25 +39,52 @@ pub(crate) struct GoneThrough<'a> {
     pub faults: Vec<FaultAt>,
 }
 
-/// Sources gone through to their names (E301 to E310).
-fn through_names<'a>(alloc: Global, texts: &[NamedText<'a>]) -> Result<GoneThrough<'a>, Fault> {
-    let sources = study(alloc, texts)?;
-    let trees = trees(alloc, &sources)?;
-    let mut found = name_faults(alloc, &trees)?;
-    let faults = in_order(alloc, &sources, &mut found)?;
-    let names = program_names(alloc, sources, &trees)?;
+/// The faults of names.
+fn faults_of_names(
+    alloc: Global,
+    sources: &[Studied<'_>],
+    trees: &[Module<'_>],
+) -> Result<Vec<FaultAt>, AllocError> {
+    let mut found = name_faults(alloc, trees)?;
+    in_order(alloc, sources, &mut found)
+}
+
+/// Sources with these trees, gone through to their names.
+fn with_trees<'a>(
+    alloc: Global,
+    sources: Vec<Studied<'a>>,
+    trees: &[Module<'a>],
+) -> Result<GoneThrough<'a>, Fault> {
+    let faults = faults_of_names(alloc, &sources, trees)?;
+    let names = program_names(alloc, sources, trees)?;
     Ok(GoneThrough {
         work: Work::Names(names),
         faults,
     })
 }
 
+/// Sources gone through to their names (E301 to E310).
+fn through_names<'a>(alloc: Global, texts: &[NamedText<'a>]) -> Result<GoneThrough<'a>, Fault> {
+    let sources = study(alloc, texts)?;
+    let trees = trees(alloc, &sources)?;
+    with_trees(alloc, sources, &trees)
+}
+
+/// The faults of types.
+fn faults_of_types(
+    alloc: Global,
+    sources: &[Studied<'_>],
+    names: &Names,
+) -> Result<Vec<FaultAt>, AllocError> {
+    let mut found = type_faults(alloc, names)?;
+    in_order(alloc, sources, &mut found)
+}
+
 /// Sources gone through to their types (E401 to E406).
 fn through_types<'a>(alloc: Global, texts: &[NamedText<'a>]) -> Result<GoneThrough<'a>, Fault> {
     let sources = study(alloc, texts)?;
     let names = names_of(alloc, &sources)?;
-    let mut found = type_faults(alloc, &names)?;
-    let faults = in_order(alloc, &sources, &mut found)?;
+    let faults = faults_of_types(alloc, &sources, &names)?;
     let reasons = all_reasons(alloc, &names)?;
     let calls = calls_of(alloc, &names)?;
     Ok(GoneThrough {

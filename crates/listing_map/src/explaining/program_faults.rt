@@ -6,7 +6,8 @@ use crate::explaining::named::Named;
 use crate::explaining::nearest::nearest_declared;
 use crate::explaining::program_names::{Linked, Other, ProgramNames};
 use crate::explaining::sentence::{Part, put_all_parts, sentence, separator};
-use crate::explaining::told::{Told, tell};
+use crate::explaining::told::{Told, tell, tell_so};
+use crate::noted::Noted;
 use plm_token::{Keyword, Kind, Token};
 use std::alloc::{AllocError, Global};
 use word86::{DATA_ROOM, Fault};
@@ -60,14 +61,14 @@ fn first_unlike<'s, 'a>(
 }
 
 /// Adds where a declaration stands, as `line 3 of m.plm`.
-fn put_place(alloc: Global, text: &mut Vec<u8>, other: &Other<'_, '_>) -> Result<(), AllocError> {
+fn put_place(text: &mut Noted<u8>, other: &Other<'_, '_>) {
     let parts = [
         Part::Words("line "),
         Part::Number(other.line()),
         Part::Words(" of "),
         Part::Words(other.file()),
     ];
-    put_all_parts(alloc, text, &parts)
+    put_all_parts(text, &parts);
 }
 
 /// What is declared of the name at the token.
@@ -88,24 +89,19 @@ pub(crate) fn unjoined(alloc: Global, at: &At<'_, '_>) -> Result<Told, Fault> {
     };
     let others = at.program.linked(alloc, at.name(), wanted)?;
     match first_unlike(&others, at, &facts) {
-        Some(other) => differing(alloc, at, &facts, &other),
+        Some(other) => Ok(differing(alloc, at, &facts, &other)),
         None => without_public(alloc, at),
     }
 }
 
 /// The two declarations, of which one is EXTERNAL and one PUBLIC.
-fn differing(
-    alloc: Global,
-    at: &At<'_, '_>,
-    facts: &Facts,
-    other: &Other<'_, '_>,
-) -> Result<Told, Fault> {
-    let mut help = sentence(alloc, &[Part::Spelled(at.name()), Part::Words(" is ")])?;
-    put_described(alloc, &mut help, facts)?;
-    put_all_parts(alloc, &mut help, &[Part::Words(" here and ")])?;
-    put_described(alloc, &mut help, &other.entry.facts)?;
-    put_all_parts(alloc, &mut help, &[Part::Words(" in ")])?;
-    put_place(alloc, &mut help, other)?;
+fn differing(alloc: Global, at: &At<'_, '_>, facts: &Facts, other: &Other<'_, '_>) -> Told {
+    let mut help = sentence(alloc, &[Part::Spelled(at.name()), Part::Words(" is ")]);
+    put_described(&mut help, facts);
+    put_all_parts(&mut help, &[Part::Words(" here and ")]);
+    put_described(&mut help, &other.entry.facts);
+    put_all_parts(&mut help, &[Part::Words(" in ")]);
+    put_place(&mut help, other);
     let words = match facts.sort {
         Sort::Procedure(_) => ": the two have to agree in value and in parameters",
         Sort::Byte
@@ -115,8 +111,8 @@ fn differing(
         | Sort::Structure(_)
         | Sort::Nothing => ": the two have to agree in type, dimension and members",
     };
-    put_all_parts(alloc, &mut help, &[Part::Words(words)])?;
-    at.told(alloc, &[Part::Spelled(&help)])
+    put_all_parts(&mut help, &[Part::Words(words)]);
+    at.told_so(help)
 }
 
 /// No module declares it PUBLIC.
@@ -128,21 +124,19 @@ fn without_public(alloc: Global, at: &At<'_, '_>) -> Result<Told, Fault> {
             Part::Spelled(at.name()),
             Part::Words(" PUBLIC"),
         ],
-    )?;
+    );
     let near = nearest_declared(alloc, at.program.publics(), at.name())?;
     match near {
-        Some(near) => put_all_parts(
-            alloc,
-            &mut help,
-            &[Part::Words("; "), Part::Spelled(near), Part::Words(" is")],
-        )?,
+        Some(near) => {
+            let parts = [Part::Words("; "), Part::Spelled(near), Part::Words(" is")];
+            put_all_parts(&mut help, &parts);
+        }
         None => put_all_parts(
-            alloc,
             &mut help,
             &[Part::Words(": is one missing there, or its PUBLIC?")],
-        )?,
+        ),
     }
-    at.told(alloc, &[Part::Spelled(&help)])
+    Ok(at.told_so(help))
 }
 
 /// What is told of E307.
@@ -151,29 +145,25 @@ pub(crate) fn two_publics(alloc: Global, at: &At<'_, '_>) -> Result<Told, Fault>
     let mut help = sentence(
         alloc,
         &[Part::Spelled(at.name()), Part::Words(" is PUBLIC ")],
-    )?;
+    );
     match first_other(&others, at) {
         Some(other) => {
-            put_all_parts(alloc, &mut help, &[Part::Words("in ")])?;
-            put_place(alloc, &mut help, &other)?;
-            put_all_parts(
-                alloc,
-                &mut help,
-                &[Part::Words(" too: one of the two is EXTERNAL")],
-            )?;
+            put_all_parts(&mut help, &[Part::Words("in ")]);
+            put_place(&mut help, &other);
+            let rule = " too: one of the two is EXTERNAL";
+            put_all_parts(&mut help, &[Part::Words(rule)]);
         }
-        None => put_all_parts(alloc, &mut help, &[Part::Words("twice")])?,
+        None => put_all_parts(&mut help, &[Part::Words("twice")]),
     }
-    at.told(alloc, &[Part::Spelled(&help)])
+    Ok(at.told_so(help))
 }
 
 /// Adds names of files, with commas between them.
-fn put_files(alloc: Global, text: &mut Vec<u8>, names: &[&str]) -> Result<(), AllocError> {
+fn put_files(text: &mut Noted<u8>, names: &[&str]) {
     for (number, name) in names.iter().enumerate() {
         let between = separator(number, names.len(), " and ");
-        put_all_parts(alloc, text, &[Part::Words(between), Part::Words(name)])?;
+        put_all_parts(text, &[Part::Words(between), Part::Words(name)]);
     }
-    Ok(())
 }
 
 /// What is told of E308.
@@ -183,16 +173,13 @@ pub(crate) fn mains(alloc: Global, program: &ProgramNames<'_>) -> Result<Told, F
         let parts = [Part::Words(
             "no module has statements at its outer level, behind its declarations and procedures: an empty one, \";\", is enough",
         )];
-        return Ok(tell(alloc, None, &parts)?);
+        return Ok(tell(alloc, None, &parts));
     }
-    let mut help = Vec::new(alloc);
-    put_files(alloc, &mut help, &names)?;
-    put_all_parts(
-        alloc,
-        &mut help,
-        &[Part::Words(" have statements at their outer level: one module alone is main")],
-    )?;
-    Ok(tell(alloc, None, &[Part::Spelled(&help)])?)
+    let mut help = Noted::new(alloc);
+    put_files(&mut help, &names);
+    let rule = " have statements at their outer level: one module alone is main";
+    put_all_parts(&mut help, &[Part::Words(rule)]);
+    Ok(tell_so(None, help))
 }
 
 /// The number after the first INTERRUPT among these tokens.
@@ -219,34 +206,25 @@ fn vector_at(at: &At<'_, '_>) -> Option<u32> {
 }
 
 /// What is told of E309.
-pub(crate) fn two_handlers(alloc: Global, at: &At<'_, '_>) -> Result<Told, Fault> {
+pub(crate) fn two_handlers(alloc: Global, at: &At<'_, '_>) -> Told {
     let mut help = sentence(
         alloc,
         &[
             Part::Spelled(at.name()),
             Part::Words(" handles an interrupt that has a procedure already"),
         ],
-    )?;
+    );
     if let Some(vector) = vector_at(at) {
-        put_first_handler(alloc, &mut help, at.program, vector)?;
+        put_first_handler(&mut help, at.program, vector);
     }
-    put_all_parts(
-        alloc,
-        &mut help,
-        &[Part::Words(": each number has one procedure")],
-    )?;
-    at.told(alloc, &[Part::Spelled(&help)])
+    put_all_parts(&mut help, &[Part::Words(": each number has one procedure")]);
+    at.told_so(help)
 }
 
 /// Adds where the first procedure for an interrupt stands.
-fn put_first_handler(
-    alloc: Global,
-    text: &mut Vec<u8>,
-    program: &ProgramNames<'_>,
-    vector: u32,
-) -> Result<(), AllocError> {
+fn put_first_handler(text: &mut Noted<u8>, program: &ProgramNames<'_>, vector: u32) {
     let Some(handler) = program.handler(vector) else {
-        return Ok(());
+        return;
     };
     let parts = [
         Part::Words(", in line "),
@@ -254,7 +232,7 @@ fn put_first_handler(
         Part::Words(" of "),
         Part::Words(handler.file),
     ];
-    put_all_parts(alloc, text, &parts)
+    put_all_parts(text, &parts);
 }
 
 /// A name and its bytes.
@@ -275,8 +253,7 @@ pub(crate) fn total_of(all: &[Large<'_>]) -> u64 {
 
 /// Adds the largest three of these with their bytes, those of many bytes first.
 pub(crate) fn put_largest(
-    alloc: Global,
-    text: &mut Vec<u8>,
+    text: &mut Noted<u8>,
     all: &mut Vec<Large<'_>>,
 ) -> Result<(), AllocError> {
     all.sort_by_key(|large| u64::MAX.saturating_sub(large.bytes))?;
@@ -287,7 +264,7 @@ pub(crate) fn put_largest(
             Part::Words(" has "),
             Part::Number(large.bytes),
         ];
-        put_all_parts(alloc, text, &parts)?;
+        put_all_parts(text, &parts);
     }
     Ok(())
 }
@@ -325,7 +302,7 @@ fn objects<'a>(alloc: Global, program: &ProgramNames<'a>) -> Result<Vec<Large<'a
 }
 
 /// How many bytes the variables want, of which so many are known: what `(*)` has is not among these.
-fn wanted_bytes(alloc: Global, known: u64) -> Result<Vec<u8>, AllocError> {
+fn wanted_bytes(alloc: Global, known: u64) -> Noted<u8> {
     let room = Part::Number(DATA_ROOM as u64);
     if known <= DATA_ROOM as u64 {
         let want = Part::Words("the variables want more than ");
@@ -343,10 +320,10 @@ fn wanted_bytes(alloc: Global, known: u64) -> Result<Vec<u8>, AllocError> {
 /// What is told of E310.
 pub(crate) fn too_much_data(alloc: Global, program: &ProgramNames<'_>) -> Result<Told, Fault> {
     let mut all = objects(alloc, program)?;
-    let mut help = wanted_bytes(alloc, total_of(&all))?;
+    let mut help = wanted_bytes(alloc, total_of(&all));
     if !all.is_empty() {
-        put_all_parts(alloc, &mut help, &[Part::Words(": ")])?;
-        put_largest(alloc, &mut help, &mut all)?;
+        put_all_parts(&mut help, &[Part::Words(": ")]);
+        put_largest(&mut help, &mut all)?;
     }
-    Ok(tell(alloc, None, &[Part::Spelled(&help)])?)
+    Ok(tell_so(None, help))
 }

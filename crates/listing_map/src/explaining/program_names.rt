@@ -133,6 +133,15 @@ impl<'a> ProgramNames<'a> {
         Ok(())
     }
 
+    /// Adds a module, with its names.
+    fn add(&mut self, alloc: Global, module: usize, source: Studied<'a>) -> Result<(), AllocError> {
+        let named = with_names(alloc, source)?;
+        self.note_names(alloc, module, &named)?;
+        self.note_handlers(module, &named.source.expanded)?;
+        self.modules.push(named)?;
+        Ok(())
+    }
+
     /// The declared name that modules share.
     fn other(&self, shared: Shared) -> Option<Other<'_, 'a>> {
         let named = self.modules.get(shared.module)?;
@@ -224,10 +233,7 @@ pub(crate) fn program_names<'a>(
         mains: mains_of(alloc, trees)?,
     };
     for (module, source) in sources.into_iter().enumerate() {
-        let named = with_names(alloc, source)?;
-        program.note_names(alloc, module, &named)?;
-        program.note_handlers(module, &named.source.expanded)?;
-        program.modules.push(named)?;
+        program.add(alloc, module, source)?;
     }
     Ok(program)
 }

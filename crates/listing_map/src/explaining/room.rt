@@ -2,10 +2,11 @@
 
 use crate::explaining::program_faults::{Large, put_largest, total_of};
 use crate::explaining::sentence::{Part, put_all_parts, sentence};
-use crate::explaining::told::{Told, tell};
+use crate::explaining::told::{Told, tell_so};
+use crate::noted::Noted;
 use crate::routines::{path_of, procedure_path, routines_of};
 use crate::stack_paths::{Deep, Way, deepest_way, deeps_of, handler_ways, main_way};
-use frames::{Stack, count};
+use frames::count;
 use icode::{Code, Routine};
 use layout_link::{RESET, RomSize, StartUpRoom, link, start_up_room};
 use plm_decl::{Datum, Names, Object};
@@ -86,21 +87,29 @@ fn push_initial<'n>(all: &mut Vec<Large<'n>>, names: &'n Names) -> Result<(), Al
     Ok(())
 }
 
+/// Whether a ROM of this size has room for the program.
+fn has_room(alloc: Global, compiled: Compiled<'_>, size: RomSize) -> Result<bool, Fault> {
+    let stack = count(alloc, compiled.code)?;
+    let parts = select(alloc, compiled.code)?;
+    match link(alloc, parts, compiled.names, stack, size) {
+        Ok(_) => Ok(true),
+        Err(Fault::At(_, _, _)) => Ok(false),
+        Err(Fault::Memory) => Err(Fault::Memory),
+    }
+}
+
 /// The least size whose ROM has room for the program, in KiB.
-fn enough(alloc: Global, code: &Code, names: &Names, stack: Stack) -> Result<Option<u64>, Fault> {
+fn enough(alloc: Global, compiled: Compiled<'_>) -> Result<Option<u64>, Fault> {
     for (size, kib) in SIZES {
-        let parts = select(alloc, code)?;
-        match link(alloc, parts, names, stack, *size) {
-            Ok(_) => return Ok(Some(*kib)),
-            Err(Fault::At(_, _, _)) => {}
-            Err(Fault::Memory) => return Err(Fault::Memory),
+        if has_room(alloc, compiled, *size)? {
+            return Ok(Some(*kib));
         }
     }
     Ok(None)
 }
 
 /// Adds which size of a ROM has room, if one has.
-fn put_enough(alloc: Global, text: &mut Vec<u8>, enough: Option<u64>) -> Result<(), AllocError> {
+fn put_enough(text: &mut Noted<u8>, enough: Option<u64>) {
     match enough {
         Some(kib) => {
             let parts = [
@@ -108,63 +117,68 @@ fn put_enough(alloc: Global, text: &mut Vec<u8>, enough: Option<u64>) -> Result<
                 Part::Number(kib),
                 Part::Words(" has room"),
             ];
-            put_all_parts(alloc, text, &parts)
+            put_all_parts(text, &parts);
         }
-        None => put_all_parts(alloc, text, &[Part::Words("; no size has room")]),
+        None => put_all_parts(text, &[Part::Words("; no size has room")]),
     }
+}
+
+/// How many bytes a ROM of this size wants to have, and has.
+fn lacking_room(alloc: Global, wanted: u64, size: RomSize) -> Noted<u8> {
+    let room = size.bytes().saturating_sub(RESET);
+    let parts = [
+        Part::Words("start-up, code and initial values have "),
+        Part::Number(wanted),
+        Part::Words(" bytes, and the ROM has room for "),
+        Part::Number(room as u64),
+        Part::Words(": "),
+    ];
+    sentence(alloc, &parts)
+}
+
+/// What is told of E601, of a program with these parts and such a start-up.
+fn full_of_parts(
+    alloc: Global,
+    compiled: Compiled<'_>,
+    parts: &[CodePart],
+    start_up: StartUpRoom,
+) -> Result<Told, Fault> {
+    let mut sizes = code_sizes(alloc, compiled, parts, start_up)?;
+    let wanted = total_of(&sizes).saturating_add(start_up.copied as u64);
+    push_initial(&mut sizes, compiled.names)?;
+    let mut help = lacking_room(alloc, wanted, compiled.size);
+    put_largest(&mut help, &mut sizes)?;
+    put_enough(&mut help, enough(alloc, compiled)?);
+    Ok(tell_so(None, help))
 }
 
 /// What is told of E601.
 pub(crate) fn full_rom(alloc: Global, compiled: Compiled<'_>) -> Result<Told, Fault> {
-    let Compiled { code, names, size } = compiled;
-    let stack = count(alloc, code)?;
-    let parts = select(alloc, code)?;
-    let start_up = start_up_room(alloc, &parts, names)?;
-    let mut sizes = code_sizes(alloc, compiled, &parts, start_up)?;
-    let total = total_of(&sizes).saturating_add(start_up.copied as u64);
-    push_initial(&mut sizes, names)?;
-    let room = size.bytes().saturating_sub(RESET);
-    let mut help = sentence(
-        alloc,
-        &[
-            Part::Words("start-up, code and initial values have "),
-            Part::Number(total),
-            Part::Words(" bytes, and the ROM has room for "),
-            Part::Number(room as u64),
-            Part::Words(": "),
-        ],
-    )?;
-    put_largest(alloc, &mut help, &mut sizes)?;
-    put_enough(alloc, &mut help, enough(alloc, code, names, stack)?)?;
-    Ok(tell(alloc, None, &[Part::Spelled(&help)])?)
+    let parts = select(alloc, compiled.code)?;
+    let start_up = start_up_room(alloc, &parts, compiled.names)?;
+    full_of_parts(alloc, compiled, &parts, start_up)
 }
 
 /// Adds the first three procedures of a way, and whether there are more.
-fn put_way(
-    alloc: Global,
-    text: &mut Vec<u8>,
-    names: &Names,
-    deeps: &[Deep],
-    way: Way,
-) -> Result<(), AllocError> {
+fn put_way(text: &mut Noted<u8>, names: &Names, deeps: &[Deep], way: Way) {
     let mut at = way.first;
     for step in 0..3 {
         let Some(number) = at else {
-            return Ok(());
+            return;
         };
         let parts = [
             Part::Words(if step == 0 { " by " } else { ", which calls " }),
             Part::Spelled(procedure_path(names, number)),
         ];
-        put_all_parts(alloc, text, &parts)?;
+        put_all_parts(text, &parts);
         at = match deeps.get(number) {
             Some(deep) => deep.next,
             None => None,
         };
     }
     match at {
-        Some(_) => put_all_parts(alloc, text, &[Part::Words(" and so on")]),
-        None => Ok(()),
+        Some(_) => put_all_parts(text, &[Part::Words(" and so on")]),
+        None => {}
     }
 }
 
@@ -186,10 +200,10 @@ pub(crate) fn full_stack(alloc: Global, compiled: Compiled<'_>) -> Result<Told, 
             Part::Words(" bytes, 2 for each call and each value that waits: main wants "),
             Part::Number(main.bytes),
         ],
-    )?;
-    put_way(alloc, &mut help, names, &deeps, main)?;
+    );
+    put_way(&mut help, names, &deeps, main);
     let parts = [Part::Words("; an interrupt "), Part::Number(handler.bytes)];
-    put_all_parts(alloc, &mut help, &parts)?;
-    put_way(alloc, &mut help, names, &deeps, handler)?;
-    Ok(tell(alloc, None, &[Part::Spelled(&help)])?)
+    put_all_parts(&mut help, &parts);
+    put_way(&mut help, names, &deeps, handler);
+    Ok(tell_so(None, help))
 }

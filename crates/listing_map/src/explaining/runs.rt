@@ -1,7 +1,8 @@
 //! What is told of the faults of schedules and ROMs: E701 to E703, and E705.
 
-use crate::explaining::sentence::{Part, put_all_parts, sentence};
-use crate::explaining::told::{Mark, Told, tell};
+use crate::explaining::sentence::{Part, put_all_parts};
+use crate::explaining::told::{Mark, Told, tell, tell_so};
+use crate::noted::Noted;
 use std::alloc::{AllocError, Global};
 use word86::Fault;
 
@@ -155,7 +156,7 @@ pub(crate) fn schedule_line(alloc: Global, line: &[u8]) -> Result<Told, Fault> {
         Part::Words(" can stand, "),
         Part::Words(form),
     ];
-    let mut answer = tell(alloc, None, &parts)?;
+    let mut answer = tell(alloc, None, &parts);
     let marked = match word {
         Some(word) => Some(word),
         None => words.last().copied(),
@@ -211,15 +212,11 @@ fn lines_before(alloc: Global, text: &[u8], line: u32) -> Result<Before, AllocEr
 }
 
 /// The rule that a line breaks which is out of order behind these.
-fn put_order(
-    alloc: Global,
-    text: &mut Vec<u8>,
-    before: Before,
-    quoted: &[u8],
-) -> Result<(), AllocError> {
+fn put_order(text: &mut Noted<u8>, before: Before, quoted: &[u8]) {
     if before.has_stop {
         let rule = Part::Words("STOP is the last line that is no comment");
-        return put_all_parts(alloc, text, &[rule]);
+        put_all_parts(text, &[rule]);
+        return;
     }
     match before.turn {
         Some(turn) if !quoted.starts_with(b"FILL ") => {
@@ -232,11 +229,11 @@ fn put_order(
                     ", and turns do not fall: sort the lines"
                 }),
             ];
-            put_all_parts(alloc, text, &parts)
+            put_all_parts(text, &parts);
         }
         Some(_) | None => {
             let rule = Part::Words("FILL is the first line that is no comment, and stands once");
-            put_all_parts(alloc, text, &[rule])
+            put_all_parts(text, &[rule]);
         }
     }
 }
@@ -249,9 +246,9 @@ pub(crate) fn schedule_order(
     line: u32,
 ) -> Result<Told, Fault> {
     let before = lines_before(alloc, text, line)?;
-    let mut help = Vec::new(alloc);
-    put_order(alloc, &mut help, before, quoted)?;
-    let mut answer = tell(alloc, None, &[Part::Spelled(&help)])?;
+    let mut help = Noted::new(alloc);
+    put_order(&mut help, before, quoted);
+    let mut answer = tell_so(None, help);
     answer.mark = Some(Mark {
         column: 0,
         width: quoted.len(),
@@ -260,18 +257,16 @@ pub(crate) fn schedule_order(
 }
 
 /// What is told of E703.
-pub(crate) fn no_stop(alloc: Global) -> Result<Told, Fault> {
-    Ok(tell(
-        alloc,
-        None,
-        &[Part::Words("the schedule ends with a line that says when the run ends, as STOP 20000")],
-    )?)
+pub(crate) fn no_stop(alloc: Global) -> Told {
+    let words = "the schedule ends with a line that says when the run ends, as STOP 20000";
+    tell(alloc, None, &[Part::Words(words)])
 }
 
 /// What is told of E705, of a ROM of so many bytes.
-pub(crate) fn rom_length(alloc: Global, length: usize) -> Result<Told, Fault> {
-    let help = sentence(
+pub(crate) fn rom_length(alloc: Global, length: usize) -> Told {
+    tell(
         alloc,
+        None,
         &[
             Part::Words("the file has "),
             Part::Words(if length > 65_536 {
@@ -288,6 +283,5 @@ pub(crate) fn rom_length(alloc: Global, length: usize) -> Result<Told, Fault> {
                 " bytes, and a ROM has 8192, 16384, 32768 or 65536: bytes 0FFH in front make a shorter one longer; the ROM is named before the schedule",
             ),
         ],
-    )?;
-    Ok(tell(alloc, None, &[Part::Spelled(&help)])?)
+    )
 }

@@ -1,6 +1,8 @@
 //! Sentences, put together of words, names and numbers.
 
-use std::alloc::{AllocError, Global};
+use crate::noted::Noted;
+use itoa::Buffer;
+use std::alloc::Global;
 
 /// A part of a sentence.
 #[derive(Clone, Copy)]
@@ -12,34 +14,29 @@ pub(crate) enum Part<'a> {
 }
 
 /// Adds a part.
-pub(crate) fn put(alloc: Global, text: &mut Vec<u8>, part: Part<'_>) -> Result<(), AllocError> {
+fn put(text: &mut Noted<u8>, part: Part<'_>) {
     match part {
-        Part::Words(words) => text.extend_from_slice(words.as_bytes()),
-        Part::Spelled(bytes) => text.extend_from_slice(bytes),
+        Part::Words(words) => text.put(words.as_bytes()),
+        Part::Spelled(bytes) => text.put(bytes),
         Part::Number(number) => {
-            let digits = format!(in alloc; "{number}")?;
-            text.extend_from_slice(digits.as_str().as_bytes())
+            let mut buffer = Buffer::new();
+            text.put(buffer.format(number).as_bytes());
         }
     }
 }
 
 /// Adds parts, one after another.
-pub(crate) fn put_all_parts(
-    alloc: Global,
-    text: &mut Vec<u8>,
-    parts: &[Part<'_>],
-) -> Result<(), AllocError> {
+pub(crate) fn put_all_parts(text: &mut Noted<u8>, parts: &[Part<'_>]) {
     for part in parts {
-        put(alloc, text, *part)?;
+        put(text, *part);
     }
-    Ok(())
 }
 
 /// The parts, one after another.
-pub(crate) fn sentence(alloc: Global, parts: &[Part<'_>]) -> Result<Vec<u8>, AllocError> {
-    let mut text = Vec::new(alloc);
-    put_all_parts(alloc, &mut text, parts)?;
-    Ok(text)
+pub(crate) fn sentence(alloc: Global, parts: &[Part<'_>]) -> Noted<u8> {
+    let mut text = Noted::new(alloc);
+    put_all_parts(&mut text, parts);
+    text
 }
 
 /// What stands around a token in a sentence: marks in quotation marks, other tokens in nothing.

@@ -140,11 +140,22 @@ pub(crate) fn names_of(alloc: Global, sources: &[Studied<'_>]) -> Result<Names, 
     resolve(alloc, &trees)
 }
 
-/// The number of the token at which a source has a fault of grammar, if it has one.
-pub(crate) fn unparsed_token(alloc: Global, source: &Studied<'_>) -> Result<Option<u32>, Fault> {
-    match source.tree(alloc) {
+/// The number of the token that the parser does not go on with among these, whose lines are their numbers, if there is one.
+pub(crate) fn unparsed_among(
+    alloc: Global,
+    tokens: Vec<Token<'_>>,
+) -> Result<Option<u32>, AllocError> {
+    match parse(alloc, tokens) {
         Ok(_) => Ok(None),
-        Err(Fault::At(_, token, _)) => Ok(Some(token)),
-        Err(Fault::Memory) => Err(Fault::Memory),
+        Err(Fault::At(_, number, _)) => Ok(Some(number)),
+        Err(Fault::Memory) => Err(AllocError),
     }
+}
+
+/// The number of the token at which a source has a fault of grammar, if it has one.
+pub(crate) fn unparsed_token(
+    alloc: Global,
+    source: &Studied<'_>,
+) -> Result<Option<u32>, AllocError> {
+    unparsed_among(alloc, copied(alloc, &source.tokens)?)
 }

@@ -84,7 +84,7 @@ fn character<'a>(bytes: &'a [u8]) -> Part<'a> {
 }
 
 /// A string that holds a character which none may: the mark stands under it.
-fn in_string(alloc: Global, piece: &Piece<'_>, line: &[u8]) -> Result<Told, Fault> {
+fn in_string(alloc: Global, piece: &Piece<'_>, line: &[u8]) -> Told {
     let column = piece.column.saturating_add(piece.text.len());
     let parts = [
         Part::Words("found "),
@@ -97,12 +97,12 @@ fn in_string(alloc: Global, piece: &Piece<'_>, line: &[u8]) -> Result<Told, Faul
             " in a string, which holds the characters 20H to 7EH alone: a number stands beside it, as in ('text', 9)",
         ),
     ];
-    let mut answer = tell(alloc, None, &parts)?;
+    let mut answer = tell(alloc, None, &parts);
     answer.mark = Some(Mark { column, width: 1 });
-    Ok(answer)
+    answer
 }
 
-fn character_fault(alloc: Global, piece: &Piece<'_>, line: &[u8]) -> Result<Told, Fault> {
+fn character_fault(alloc: Global, piece: &Piece<'_>, line: &[u8]) -> Told {
     if matches!(piece.text, [b'\'', ..]) {
         return in_string(alloc, piece, line);
     }
@@ -113,7 +113,7 @@ fn character_fault(alloc: Global, piece: &Piece<'_>, line: &[u8]) -> Result<Told
         Part::Words(", which begins no token: "),
         Part::Words(in_place_of(first)),
     ];
-    Ok(tell(alloc, Some(*piece), &parts)?)
+    tell(alloc, Some(*piece), &parts)
 }
 
 fn is_hexadecimal_digit(byte: u8) -> bool {
@@ -151,7 +151,7 @@ pub(crate) fn wants_suffix(text: &[u8]) -> bool {
     lacks_suffix(text) && digit_count(text) <= 5
 }
 
-fn number_fault(alloc: Global, piece: &Piece<'_>) -> Result<Told, Fault> {
+fn number_fault(alloc: Global, piece: &Piece<'_>) -> Told {
     let text = piece.text;
     let parts = match text {
         [b'0', b'x' | b'X', digits @ ..] if wants_suffix(digits) => [
@@ -181,7 +181,7 @@ fn number_fault(alloc: Global, piece: &Piece<'_>) -> Result<Told, Fault> {
             Part::Words(""),
         ],
     };
-    Ok(tell(alloc, Some(*piece), &parts)?)
+    tell(alloc, Some(*piece), &parts)
 }
 
 /// How many characters of a name count.
@@ -195,18 +195,18 @@ fn counted(name: &[u8]) -> u64 {
     count
 }
 
-fn name_fault(alloc: Global, piece: &Piece<'_>) -> Result<Told, Fault> {
+fn name_fault(alloc: Global, piece: &Piece<'_>) -> Told {
     let parts = [
         Part::Spelled(piece.text),
         Part::Words(" has "),
         Part::Number(counted(piece.text)),
         Part::Words(" characters: a name has at most 31, dollar signs not counted"),
     ];
-    Ok(tell(alloc, Some(*piece), &parts)?)
+    tell(alloc, Some(*piece), &parts)
 }
 
-fn words_at(alloc: Global, piece: &Piece<'_>, words: &'static str) -> Result<Told, Fault> {
-    Ok(tell(alloc, Some(*piece), &[Part::Words(words)])?)
+fn words_at(alloc: Global, piece: &Piece<'_>, words: &'static str) -> Told {
+    tell(alloc, Some(*piece), &[Part::Words(words)])
 }
 
 /// What is told of a fault of a text at a line, of which this is the text; nothing where it stands in a literal's text.
@@ -221,24 +221,24 @@ pub(crate) fn text_fault(
         return Ok(None);
     };
     let answer = match fault {
-        TextFault::Character => character_fault(alloc, &piece, quoted)?,
+        TextFault::Character => character_fault(alloc, &piece, quoted),
         TextFault::OpenString => words_at(
             alloc,
             &piece,
             "this string is open at the end of its line: its apostrophe is missing, or one inside it is not doubled",
-        )?,
+        ),
         TextFault::OpenComment => words_at(
             alloc,
             &piece,
             "this comment is open at the end of the text: its */ is missing",
-        )?,
-        TextFault::Number => number_fault(alloc, &piece)?,
-        TextFault::Name => name_fault(alloc, &piece)?,
+        ),
+        TextFault::Number => number_fault(alloc, &piece),
+        TextFault::Name => name_fault(alloc, &piece),
         TextFault::Control => words_at(
             alloc,
             &piece,
             "no file is included: name each module on the command line, with PUBLIC there and EXTERNAL here",
-        )?,
+        ),
     };
     Ok(Some(answer))
 }

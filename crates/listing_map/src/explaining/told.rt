@@ -2,7 +2,8 @@
 
 use crate::explaining::pieces::Piece;
 use crate::explaining::sentence::{Part, sentence};
-use std::alloc::{AllocError, Global};
+use crate::noted::Noted;
+use std::alloc::Global;
 
 /// How many bytes of the faulty line stand before what is marked, and how many are marked.
 #[derive(Clone, Copy, PartialEq, Eq)]
@@ -15,7 +16,7 @@ pub(crate) struct Mark {
 #[derive(Drop)]
 pub(crate) struct Told {
     pub mark: Option<Mark>,
-    pub help: Vec<u8>,
+    pub help: Noted<u8>,
 }
 
 impl Mark {
@@ -28,18 +29,18 @@ impl Mark {
     }
 }
 
-/// These parts, at a piece if there is one.
-pub(crate) fn tell(
-    alloc: Global,
-    piece: Option<Piece<'_>>,
-    parts: &[Part<'_>],
-) -> Result<Told, AllocError> {
-    let help = sentence(alloc, parts)?;
-    Ok(Told {
+/// A sentence, at a piece if there is one.
+pub(crate) fn tell_so(piece: Option<Piece<'_>>, help: Noted<u8>) -> Told {
+    Told {
         mark: match piece {
             Some(piece) => Some(Mark::under(&piece)),
             None => None,
         },
         help,
-    })
+    }
+}
+
+/// These parts, at a piece if there is one.
+pub(crate) fn tell(alloc: Global, piece: Option<Piece<'_>>, parts: &[Part<'_>]) -> Told {
+    tell_so(piece, sentence(alloc, parts))
 }

@@ -12,7 +12,6 @@ use plm_decl::{Names, ScalarType};
 use plm_syntax::{BinaryOperator, UnaryOperator};
 use plm_type::{is_bitwise, is_equality, is_integer};
 use std::alloc::Global;
-use word86::Fault;
 
 const ADDRESSES: &str = ": @X is a POINTER, .X a WORD";
 
@@ -132,16 +131,16 @@ impl<'s, 'a> Faulty<'s, 'a> {
         self.spelled(self.number)
     }
 
-    fn told(&self, parts: &[Part<'_>]) -> Result<Told, Fault> {
+    fn told(&self, parts: &[Part<'_>]) -> Told {
         let spot = match self.source() {
             Some(source) => source.spot(self.number),
             None => None,
         };
-        Ok(tell(self.alloc, spot, parts)?)
+        tell(self.alloc, spot, parts)
     }
 
     /// The name, and words after it.
-    fn named(&self, words: &'static str) -> Result<Told, Fault> {
+    fn named(&self, words: &'static str) -> Told {
         self.told(&[Part::Spelled(self.name()), Part::Words(words)])
     }
 
@@ -156,7 +155,7 @@ impl<'s, 'a> Faulty<'s, 'a> {
         }
     }
 
-    fn operands(&self, operator: BinaryOperator, left: Type, right: Type) -> Result<Told, Fault> {
+    fn operands(&self, operator: BinaryOperator, left: Type, right: Type) -> Told {
         self.told(&[
             Part::Words(operator_name(operator)),
             Part::Words(operands_rule(operator, left, right)),
@@ -167,7 +166,7 @@ impl<'s, 'a> Faulty<'s, 'a> {
         ])
     }
 
-    fn operand(&self, operator: UnaryOperator, scalar: Type) -> Result<Told, Fault> {
+    fn operand(&self, operator: UnaryOperator, scalar: Type) -> Told {
         let way = if is_integer(scalar) { FROM_INTEGER } else { "" };
         self.told(&[
             Part::Words(sign_name(operator)),
@@ -177,7 +176,7 @@ impl<'s, 'a> Faulty<'s, 'a> {
         ])
     }
 
-    fn condition(&self, scalar: Type) -> Result<Told, Fault> {
+    fn condition(&self, scalar: Type) -> Told {
         self.told(&[
             Part::Spelled(self.name()),
             Part::Words(" tests or counts with a BYTE or a WORD, and here is "),
@@ -186,7 +185,7 @@ impl<'s, 'a> Faulty<'s, 'a> {
         ])
     }
 
-    fn step(&self, scalar: Type) -> Result<Told, Fault> {
+    fn step(&self, scalar: Type) -> Told {
         self.told(&[
             Part::Spelled(self.name()),
             Part::Words(" counts by a BYTE or a WORD, and its step is "),
@@ -195,7 +194,7 @@ impl<'s, 'a> Faulty<'s, 'a> {
         ])
     }
 
-    fn bound(&self, index: u32, into: Type, value: Type) -> Result<Told, Fault> {
+    fn bound(&self, index: u32, into: Type, value: Type) -> Told {
         self.told(&[
             Part::Words("the index "),
             Part::Spelled(self.spelled(index)),
@@ -208,7 +207,7 @@ impl<'s, 'a> Faulty<'s, 'a> {
     }
 
     /// A number that no INTEGER can have.
-    fn large_integer(&self) -> Result<Told, Fault> {
+    fn large_integer(&self) -> Told {
         self.told(&[
             Part::Spelled(self.name()),
             Part::Words(" is above 32767, the greatest INTEGER: SIGNED("),
@@ -225,7 +224,7 @@ impl<'s, 'a> Faulty<'s, 'a> {
         }
     }
 
-    fn targets(&self, one: (Target, Type), other: (Target, Type)) -> Result<Told, Fault> {
+    fn targets(&self, one: (Target, Type), other: (Target, Type)) -> Told {
         self.told(&[
             Part::Words("the target "),
             Part::Spelled(self.spelled(one.0.name)),
@@ -243,7 +242,7 @@ impl<'s, 'a> Faulty<'s, 'a> {
         ])
     }
 
-    fn store(&self, target: Target, into: Type, value: Type) -> Result<Told, Fault> {
+    fn store(&self, target: Target, into: Type, value: Type) -> Told {
         self.told(&[
             Part::Words("the value is "),
             Part::Words(one_of(value)),
@@ -257,7 +256,7 @@ impl<'s, 'a> Faulty<'s, 'a> {
         ])
     }
 
-    fn argument(&self, parameter: usize, into: Type, value: Type) -> Result<Told, Fault> {
+    fn argument(&self, parameter: usize, into: Type, value: Type) -> Told {
         self.told(&[
             Part::Words("the parameter "),
             Part::Spelled(self.variable(parameter)),
@@ -271,7 +270,7 @@ impl<'s, 'a> Faulty<'s, 'a> {
         ])
     }
 
-    fn builtin_argument(&self, taken: Type, value: Type) -> Result<Told, Fault> {
+    fn builtin_argument(&self, taken: Type, value: Type) -> Told {
         self.told(&[
             Part::Spelled(self.name()),
             Part::Words(argument_rule(taken)),
@@ -280,7 +279,7 @@ impl<'s, 'a> Faulty<'s, 'a> {
         ])
     }
 
-    fn count(&self, wanted: usize, given: usize) -> Result<Told, Fault> {
+    fn count(&self, wanted: usize, given: usize) -> Told {
         self.told(&[
             Part::Spelled(self.name()),
             Part::Words(" takes "),
@@ -299,7 +298,7 @@ impl<'s, 'a> Faulty<'s, 'a> {
         ])
     }
 
-    fn long_text(&self, length: usize) -> Result<Told, Fault> {
+    fn long_text(&self, length: usize) -> Told {
         self.told(&[
             Part::Words("this string has "),
             Part::Number(length as u64),
@@ -309,7 +308,7 @@ impl<'s, 'a> Faulty<'s, 'a> {
         ])
     }
 
-    fn returned(&self, wanted: Type, given: Option<Type>) -> Result<Told, Fault> {
+    fn returned(&self, wanted: Type, given: Option<Type>) -> Told {
         let parts = match given {
             Some(value) => [
                 Part::Words("the procedure returns "),
@@ -329,7 +328,7 @@ impl<'s, 'a> Faulty<'s, 'a> {
         self.told(&parts)
     }
 
-    fn reason(&self, reason: Reason) -> Result<Told, Fault> {
+    fn reason(&self, reason: Reason) -> Told {
         match reason {
             Reason::Broken(rule) => self.named(rule_words(rule)),
             Reason::LongText(length) => self.long_text(length),
@@ -370,7 +369,7 @@ pub(crate) fn type_fault(
     module: usize,
     token: TokenAt,
     fault: TypeFault,
-) -> Result<Told, Fault> {
+) -> Told {
     let faulty = Faulty {
         alloc,
         sources: &typed.sources,

@@ -2,6 +2,7 @@
 
 use crate::explaining::references::{reference_of, variable_of};
 use crate::explaining::studied::number_at;
+use crate::noted::Noted;
 use plm_decl::{Expression, Form, Names, Operation, Reference, ScalarType, Selector};
 use plm_syntax::BinaryOperator;
 use plm_type::is_relation;
@@ -136,13 +137,14 @@ impl Tested {
         first: &Expression,
         operations: &[Operation],
     ) -> Result<Tested, AllocError> {
-        let mut tests = Vec::new(alloc);
-        push_tests(first, 0, &mut tests)?;
+        let mut noted = Noted::new(alloc);
+        push_tests(first, 0, &mut noted);
         for (number, operation) in operations.iter().enumerate() {
             if joins_tests(operation.operator) {
-                push_tests(&operation.operand, number.saturating_add(1), &mut tests)?;
+                push_tests(&operation.operand, number.saturating_add(1), &mut noted);
             }
         }
+        let mut tests = noted.whole()?;
         tests.sort_by_key(|test: &Test| (test.variable, test.side))?;
         Ok(Tested { tests })
     }
@@ -165,19 +167,19 @@ impl Tested {
 
 /// Adds the variables that an expression compares with something.
 #[cycle(testing)]
-fn push_tests(e: &Expression, side: usize, tests: &mut Vec<Test>) -> Result<(), AllocError> {
+fn push_tests(e: &Expression, side: usize, tests: &mut Noted<Test>) {
     match e {
         Expression::Parenthesised(_, inner) => push_tests(inner, side, tests),
         Expression::Unary(_, _, operand) => push_tests(operand, side, tests),
         Expression::Chain { first, others } => {
-            push_tests(first, side, tests)?;
+            push_tests(first, side, tests);
             push_tests_in(others, plain_variable(first), side, tests)
         }
         Expression::Number(_)
         | Expression::Text(_, _)
         | Expression::Reference(_)
         | Expression::Location(_)
-        | Expression::Embedded(_, _, _) => Ok(()),
+        | Expression::Embedded(_, _, _) => {}
     }
 }
 
@@ -186,25 +188,19 @@ fn push_tests_in(
     operations: &[Operation],
     left: Option<usize>,
     side: usize,
-    tests: &mut Vec<Test>,
-) -> Result<(), AllocError> {
+    tests: &mut Noted<Test>,
+) {
     for operation in operations {
         if is_relation(operation.operator) {
-            push_test(left, side, tests)?;
-            push_test(plain_variable(&operation.operand), side, tests)?;
+            push_test(left, side, tests);
+            push_test(plain_variable(&operation.operand), side, tests);
         }
-        push_tests(&operation.operand, side, tests)?;
+        push_tests(&operation.operand, side, tests);
     }
-    Ok(())
 }
 
-fn push_test(
-    variable: Option<usize>,
-    side: usize,
-    tests: &mut Vec<Test>,
-) -> Result<(), AllocError> {
+fn push_test(variable: Option<usize>, side: usize, tests: &mut Noted<Test>) {
     if let Some(variable) = variable {
-        tests.push(Test { variable, side })?;
+        tests.add(Test { variable, side });
     }
-    Ok(())
 }

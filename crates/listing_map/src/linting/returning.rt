@@ -3,6 +3,7 @@
 use crate::explaining::studied::number_at;
 use crate::linting::constants::{condition, may_be_selected, selected};
 use crate::linting::{Finding, Found};
+use crate::noted::Noted;
 use plm_decl::{Binding, Names, Reference, Statement};
 use plm_syntax::Linkage;
 use std::alloc::{AllocError, Global};
@@ -129,7 +130,7 @@ fn endless_procedures(alloc: Global, names: &Names) -> Result<Vec<bool>, AllocEr
 pub(crate) fn add_without_return(
     alloc: Global,
     names: &Names,
-    found: &mut Vec<Found>,
+    found: &mut Noted<Found>,
 ) -> Result<(), AllocError> {
     let endless = endless_procedures(alloc, names)?;
     let ends = Ends {
@@ -143,11 +144,11 @@ pub(crate) fn add_without_return(
             Linkage::None | Linkage::Public => true,
         };
         if has_body && procedure.returned.is_some() && !ends.body(&procedure.body) {
-            found.push(Found {
+            found.add(Found {
                 module: procedure.module,
                 number: number_at(procedure.place),
                 finding: Finding::WithoutReturn,
-            })?;
+            });
         }
     }
     Ok(())

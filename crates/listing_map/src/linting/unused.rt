@@ -1,8 +1,9 @@
 //! Names that a module declares and does not use.
 
-use crate::explaining::scope::all_names;
+use crate::explaining::scope::{Declared, all_names};
 use crate::explaining::studied::{Studied, number_of};
 use crate::linting::{Finding, Found};
+use crate::noted::Noted;
 use plm_token::{Keyword, Kind, Mark, Token, normal};
 use std::alloc::{AllocError, Global};
 
@@ -87,25 +88,46 @@ fn is_literal(tokens: &[Token<'_>], at: usize) -> bool {
     }
 }
 
+/// The tokens of a module, the names that stand there, and of each token whether what is declared there is shared.
+#[derive(Clone, Copy)]
+struct Uses<'m, 'a> {
+    tokens: &'m [Token<'a>],
+    spelled: &'m [Vec<u8>],
+    shared: &'m [bool],
+}
+
+impl Uses<'_, '_> {
+    /// Whether a declared name is no literal's, and is neither spelled elsewhere nor shared.
+    fn lack(&self, alloc: Global, declared: &Declared<'_>) -> Result<bool, AllocError> {
+        let is_shared = self.shared.get(declared.at).copied().unwrap_or(false);
+        let name = normal(alloc, declared.token.text)?;
+        let is_apart = is_shared || is_literal(self.tokens, declared.at);
+        Ok(!is_apart && !stands_again(self.spelled, &name))
+    }
+}
+
 /// Adds each name but a literal's that its module declares and spells nowhere else, and no other module can use.
 pub(crate) fn add_unused(
     alloc: Global,
     source: &Studied<'_>,
     module: usize,
-    found: &mut Vec<Found>,
+    found: &mut Noted<Found>,
 ) -> Result<(), AllocError> {
     let tokens = source.expanded.as_slice();
     let spelled = spelled_names(alloc, tokens)?;
     let shared = all_shared(alloc, tokens)?;
+    let uses = Uses {
+        tokens,
+        spelled: &spelled,
+        shared: &shared,
+    };
     for declared in all_names(alloc, tokens)? {
-        let is_shared = shared.get(declared.at).copied().unwrap_or(false);
-        let name = normal(alloc, declared.token.text)?;
-        if !is_shared && !is_literal(tokens, declared.at) && !stands_again(&spelled, &name) {
-            found.push(Found {
+        if uses.lack(alloc, &declared)? {
+            found.add(Found {
                 module,
                 number: number_of(&declared.token),
                 finding: Finding::Unused,
-            })?;
+            });
         }
     }
     Ok(())

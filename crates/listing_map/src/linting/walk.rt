@@ -9,6 +9,7 @@ use crate::linting::constants::{
 use crate::linting::guards::{Tested, array_read, joining, joins_tests};
 use crate::linting::outside::outside;
 use crate::linting::{Finding, Found};
+use crate::noted::Noted;
 use plm_decl::{
     Binding, Bounds, Expression, Location, Names, Operation, Reference, ScalarType, Selector,
     Statement,
@@ -116,48 +117,37 @@ fn is_zero(left: Typed, divisor: &Expression) -> bool {
 
 impl Walk<'_> {
     /// Adds what is found at a token, if something is.
-    fn add(
-        &self,
-        place: Position,
-        finding: Option<Finding>,
-        found: &mut Vec<Found>,
-    ) -> Result<(), AllocError> {
+    fn add(&self, place: Position, finding: Option<Finding>, found: &mut Noted<Found>) {
         if let Some(finding) = finding {
-            found.push(Found {
+            found.add(Found {
                 module: self.module,
                 number: number_at(place),
                 finding,
-            })?;
+            });
         }
-        Ok(())
     }
 
     /// A constant subscript by which an access leaves the bytes of its name.
-    fn access(&self, reference: &Reference, found: &mut Vec<Found>) -> Result<(), AllocError> {
+    fn access(&self, reference: &Reference, found: &mut Noted<Found>) {
         let Some(number) = variable_of(reference.binding) else {
-            return Ok(());
+            return;
         };
         let Some(variable) = self.types.names.variables.get(number) else {
-            return Ok(());
+            return;
         };
         match outside(variable, reference) {
             Some((place, finding)) => self.add(place, Some(finding), found),
-            None => Ok(()),
+            None => {}
         }
     }
 
     /// A division by zero, or a comparison that is never true.
-    fn operator(
-        &self,
-        left: Typed,
-        operation: &Operation,
-        found: &mut Vec<Found>,
-    ) -> Result<(), AllocError> {
+    fn operator(&self, left: Typed, operation: &Operation, found: &mut Noted<Found>) {
         let Some(right) = value_beside(left.scalar, &operation.operand) else {
-            return Ok(());
+            return;
         };
         if is_division(operation.operator) && is_zero(left, &operation.operand) {
-            self.add(operation.place, Some(Finding::ZeroDivisor), found)?;
+            self.add(operation.place, Some(Finding::ZeroDivisor), found);
         }
         let is_never = match values_of(left.scalar) {
             Some(among) => is_never(operation.operator, among, right),
@@ -178,49 +168,51 @@ impl Walk<'_> {
         side: usize,
         operator: BinaryOperator,
         tested: &Tested,
-        found: &mut Vec<Found>,
-    ) -> Result<(), AllocError> {
+        found: &mut Noted<Found>,
+    ) {
         let Some(read) = array_read(e, self.types.names) else {
-            return Ok(());
+            return;
         };
         if tested.is_beside(read.subscript, side) {
-            found.push(Found {
+            found.add(Found {
                 module: self.module,
                 number: read.number,
                 finding: Finding::Unguarded(operator),
-            })?;
+            });
         }
-        Ok(())
     }
 
     /// The arrays that sides of AND or OR read, whose subscripts other sides test.
-    fn guards(
+    fn guards(&self, first: &Expression, operations: &[Operation], found: &mut Noted<Found>) {
+        let Some(operator) = joining(operations) else {
+            return;
+        };
+        match Tested::of(self.alloc, first, operations) {
+            Ok(tested) => self.guards_of(operator, first, operations, &tested, found),
+            Err(AllocError) => found.lack(),
+        }
+    }
+
+    /// The same, by this operator and where these sides are tested.
+    fn guards_of(
         &self,
+        operator: BinaryOperator,
         first: &Expression,
         operations: &[Operation],
-        found: &mut Vec<Found>,
-    ) -> Result<(), AllocError> {
-        let Some(operator) = joining(operations) else {
-            return Ok(());
-        };
-        let tested = Tested::of(self.alloc, first, operations)?;
-        self.guard(first, 0, operator, &tested, found)?;
+        tested: &Tested,
+        found: &mut Noted<Found>,
+    ) {
+        self.guard(first, 0, operator, tested, found);
         for (number, operation) in operations.iter().enumerate() {
             if joins_tests(operation.operator) {
                 let side = number.saturating_add(1);
-                self.guard(&operation.operand, side, operator, &tested, found)?;
+                self.guard(&operation.operand, side, operator, tested, found);
             }
         }
-        Ok(())
     }
 
     /// A constant that its target does not hold.
-    fn store(
-        &self,
-        target: &Reference,
-        value: Option<Constant>,
-        found: &mut Vec<Found>,
-    ) -> Result<(), AllocError> {
+    fn store(&self, target: &Reference, value: Option<Constant>, found: &mut Noted<Found>) {
         let is_byte = self.types.value(target) == Some(ScalarType::Byte);
         let finding = match value {
             Some(value) if is_byte && value.value > 0xFF => Some(Finding::TooLarge(value.value)),
@@ -230,22 +222,22 @@ impl Walk<'_> {
     }
 
     #[cycle(linting)]
-    fn expression(&self, e: &Expression, found: &mut Vec<Found>) -> Result<(), AllocError> {
+    fn expression(&self, e: &Expression, found: &mut Noted<Found>) {
         match e {
-            Expression::Number(_) | Expression::Text(_, _) => Ok(()),
+            Expression::Number(_) | Expression::Text(_, _) => {}
             Expression::Reference(reference) => self.reference(reference, found),
             Expression::Location(location) => self.location(location, found),
             Expression::Parenthesised(_, inner) => self.expression(inner, found),
             Expression::Embedded(_, target, value) => {
-                self.reference(target, found)?;
-                self.expression(value, found)?;
+                self.reference(target, found);
+                self.expression(value, found);
                 self.store(target, constant_value(value), found)
             }
             Expression::Unary(_, _, operand) => self.expression(operand, found),
             Expression::Chain { first, others } => {
-                self.expression(first, found)?;
+                self.expression(first, found);
                 let left = self.types.typed(first);
-                self.operations(others, left, found)?;
+                self.operations(others, left, found);
                 self.guards(first, others, found)
             }
         }
@@ -253,119 +245,107 @@ impl Walk<'_> {
 
     /// What is found in operators with their right operands, after such a first one.
     #[cycle(linting)]
-    fn operations(
-        &self,
-        operations: &[Operation],
-        left: Typed,
-        found: &mut Vec<Found>,
-    ) -> Result<(), AllocError> {
+    fn operations(&self, operations: &[Operation], left: Typed, found: &mut Noted<Found>) {
         let mut value = left;
         for operation in operations {
-            self.expression(&operation.operand, found)?;
-            self.operator(value, operation, found)?;
+            self.expression(&operation.operand, found);
+            self.operator(value, operation, found);
             value = self.types.operation(operation, value);
         }
-        Ok(())
     }
 
     #[cycle(linting)]
-    fn list(&self, es: &[Expression], found: &mut Vec<Found>) -> Result<(), AllocError> {
+    fn list(&self, es: &[Expression], found: &mut Noted<Found>) {
         for e in es {
-            self.expression(e, found)?;
+            self.expression(e, found);
         }
-        Ok(())
     }
 
     /// What is found in a reference that is evaluated: LENGTH, LAST and SIZE evaluate none.
     #[cycle(linting)]
-    fn reference(&self, reference: &Reference, found: &mut Vec<Found>) -> Result<(), AllocError> {
+    fn reference(&self, reference: &Reference, found: &mut Noted<Found>) {
         let is_measured = match reference.binding {
             Binding::Builtin(builtin) => is_measure(builtin),
             Binding::Variable(_) | Binding::Procedure(_) | Binding::Nothing => false,
         };
         if is_measured {
-            return Ok(());
+            return;
         }
-        self.access(reference, found)?;
+        self.access(reference, found);
         self.parts(reference, found)
     }
 
     /// What is found in the subscripts or arguments of a reference, and in its member's subscript.
     #[cycle(linting)]
-    fn parts(&self, reference: &Reference, found: &mut Vec<Found>) -> Result<(), AllocError> {
-        self.list(&reference.subscripts, found)?;
+    fn parts(&self, reference: &Reference, found: &mut Noted<Found>) {
+        self.list(&reference.subscripts, found);
         match &reference.selector {
-            Selector::None | Selector::Member(_, _) => Ok(()),
+            Selector::None | Selector::Member(_, _) => {}
             Selector::Element(_, _, subscript) => self.expression(subscript, found),
         }
     }
 
     /// A location makes no access.
     #[cycle(linting)]
-    fn location(&self, location: &Location, found: &mut Vec<Found>) -> Result<(), AllocError> {
+    fn location(&self, location: &Location, found: &mut Noted<Found>) {
         match location {
             Location::Reference(_, _, reference) => self.parts(reference, found),
-            Location::Constants(_, _, _) => Ok(()),
+            Location::Constants(_, _, _) => {}
         }
     }
 
-    fn assignment(
-        &self,
-        targets: &[Reference],
-        value: &Expression,
-        found: &mut Vec<Found>,
-    ) -> Result<(), AllocError> {
+    fn assignment(&self, targets: &[Reference], value: &Expression, found: &mut Noted<Found>) {
         let kept = constant_value(value);
         for target in targets {
-            self.reference(target, found)?;
-            self.store(target, kept, found)?;
+            self.reference(target, found);
+            self.store(target, kept, found);
         }
         self.expression(value, found)
     }
 
-    fn bounds(&self, bounds: &Bounds, found: &mut Vec<Found>) -> Result<(), AllocError> {
-        self.expression(&bounds.from, found)?;
-        self.expression(&bounds.to, found)?;
+    fn bounds(&self, bounds: &Bounds, found: &mut Noted<Found>) {
+        self.expression(&bounds.from, found);
+        self.expression(&bounds.to, found);
         match &bounds.step {
             Some(step) => self.expression(step, found),
-            None => Ok(()),
+            None => {}
         }
     }
 
     #[cycle(linting_statement)]
-    fn statement(&self, statement: &Statement, found: &mut Vec<Found>) -> Result<(), AllocError> {
+    fn statement(&self, statement: &Statement, found: &mut Noted<Found>) {
         match statement {
             Statement::Empty(_)
             | Statement::Return(_)
             | Statement::Enable(_)
             | Statement::Disable(_)
-            | Statement::Halt(_) => Ok(()),
+            | Statement::Halt(_) => {}
             Statement::Assign(targets, value) => self.assignment(targets, value, found),
             Statement::Call(_, reference) => self.reference(reference, found),
             Statement::ReturnValue(_, value) => self.expression(value, found),
             Statement::If(_, test, then) => {
-                self.expression(test, found)?;
+                self.expression(test, found);
                 self.arm(then, condition(test) != Some(false), found)
             }
             Statement::IfElse(_, test, then, other) => {
-                self.expression(test, found)?;
-                self.arm(then, condition(test) != Some(false), found)?;
+                self.expression(test, found);
+                self.arm(then, condition(test) != Some(false), found);
                 self.arm(other, condition(test) != Some(true), found)
             }
             Statement::Do(_, body) => self.statements(body, found),
             Statement::While(_, test, body) => {
-                self.expression(test, found)?;
+                self.expression(test, found);
                 match condition(test) {
-                    Some(false) => Ok(()),
+                    Some(false) => {}
                     Some(true) | None => self.statements(body, found),
                 }
             }
             Statement::Case(_, selector, cases) => {
-                self.expression(selector, found)?;
+                self.expression(selector, found);
                 self.cases(cases, selected(selector), found)
             }
             Statement::Iterate(_, _, bounds, body) => {
-                self.bounds(bounds, found)?;
+                self.bounds(bounds, found);
                 self.statements(body, found)
             }
         }
@@ -373,52 +353,30 @@ impl Walk<'_> {
 
     /// An arm of IF, where its condition may lead to it.
     #[cycle(linting_statement)]
-    fn arm(
-        &self,
-        statement: &Statement,
-        is_come_to: bool,
-        found: &mut Vec<Found>,
-    ) -> Result<(), AllocError> {
+    fn arm(&self, statement: &Statement, is_come_to: bool, found: &mut Noted<Found>) {
         if is_come_to {
             self.statement(statement, found)
-        } else {
-            Ok(())
-        }
+        } else {}
     }
 
     /// The cases that may be selected.
     #[cycle(linting_statement)]
-    fn cases(
-        &self,
-        cases: &[Statement],
-        selected: Option<usize>,
-        found: &mut Vec<Found>,
-    ) -> Result<(), AllocError> {
+    fn cases(&self, cases: &[Statement], selected: Option<usize>, found: &mut Noted<Found>) {
         for (number, case) in cases.iter().enumerate() {
-            self.arm(case, may_be_selected(selected, number), found)?;
+            self.arm(case, may_be_selected(selected, number), found);
         }
-        Ok(())
     }
 
     #[cycle(linting_statement)]
-    fn statements(
-        &self,
-        statements: &[Statement],
-        found: &mut Vec<Found>,
-    ) -> Result<(), AllocError> {
+    fn statements(&self, statements: &[Statement], found: &mut Noted<Found>) {
         for statement in statements {
-            self.statement(statement, found)?;
+            self.statement(statement, found);
         }
-        Ok(())
     }
 }
 
 /// Adds what is found in the bodies of all procedures, and in main.
-pub(crate) fn add_walked(
-    alloc: Global,
-    names: &Names,
-    found: &mut Vec<Found>,
-) -> Result<(), AllocError> {
+pub(crate) fn add_walked(alloc: Global, names: &Names, found: &mut Noted<Found>) {
     let types = Types { names };
     for procedure in &names.procedures {
         let walk = Walk {
@@ -426,7 +384,7 @@ pub(crate) fn add_walked(
             types,
             module: procedure.module,
         };
-        walk.statements(&procedure.body, found)?;
+        walk.statements(&procedure.body, found);
     }
     let walk = Walk {
         alloc,
