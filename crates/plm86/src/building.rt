@@ -141,11 +141,31 @@ fn other_files<'a, R: Files>(
     outputs: Outputs<'a>,
     made: Made<'_>,
 ) -> Result<Vec<Prepared<'a>>, Stop> {
-    let mut others = Vec::new(teller.alloc);
-    prepare_listing(rt, teller, outputs.listing, made.given, &mut others)?;
-    prepare_map(rt, teller.alloc, outputs.map, made.built, &mut others)?;
-    prepare_forms(rt, teller.alloc, outputs.forms, made.rom, &mut others)?;
-    prepare_code(rt, teller, outputs.forms.code, made.built, &mut others)?;
+    let alloc = teller.alloc;
+    let mut others = Vec::new(alloc);
+    if let Some(name) = outputs.listing {
+        let text = text_of_listing(alloc, teller.sources, made.given)?;
+        prepare(rt, alloc, name, text, &mut others)?;
+    }
+    if let Some(name) = outputs.map {
+        prepare(
+            rt,
+            alloc,
+            name,
+            text_of_map(alloc, made.built)?,
+            &mut others,
+        )?;
+    }
+    prepare_forms(rt, alloc, outputs.forms, made.rom, &mut others)?;
+    if let Some(name) = outputs.forms.code {
+        prepare(
+            rt,
+            alloc,
+            name,
+            text_of_code(teller, made.built)?,
+            &mut others,
+        )?;
+    }
     Ok(others)
 }
 
@@ -162,51 +182,6 @@ fn prepare<'a, R: Files>(
     Ok(())
 }
 
-// Puts the listing behind the others, where it is wanted.
-fn prepare_listing<'a, R: Files>(
-    rt: &R,
-    teller: &Teller<'_, '_>,
-    name: Option<&'a str>,
-    given: &[Warning],
-    others: &mut Vec<Prepared<'a>>,
-) -> Result<(), Stop> {
-    let Some(name) = name else {
-        return Ok(());
-    };
-    let text = text_of_listing(teller.alloc, teller.sources, given)?;
-    prepare(rt, teller.alloc, name, text, others)
-}
-
-// Puts the map behind the others, where it is wanted.
-fn prepare_map<'a, R: Files>(
-    rt: &R,
-    alloc: Global,
-    name: Option<&'a str>,
-    built: &Built,
-    others: &mut Vec<Prepared<'a>>,
-) -> Result<(), Stop> {
-    let Some(name) = name else {
-        return Ok(());
-    };
-    let text = text_of_map(alloc, built)?;
-    prepare(rt, alloc, name, text, others)
-}
-
-// Puts the code as a listing behind the others, where it is wanted.
-fn prepare_code<'a, R: Files>(
-    rt: &R,
-    teller: &Teller<'_, '_>,
-    name: Option<&'a str>,
-    built: &Built,
-    others: &mut Vec<Prepared<'a>>,
-) -> Result<(), Stop> {
-    let Some(name) = name else {
-        return Ok(());
-    };
-    let text = text_of_code(teller, built)?;
-    prepare(rt, teller.alloc, name, text, others)
-}
-
 // Puts the ROM's other forms behind the others, those that are wanted.
 fn prepare_forms<'a, R: Files>(
     rt: &R,
@@ -215,7 +190,9 @@ fn prepare_forms<'a, R: Files>(
     rom: &[u8],
     others: &mut Vec<Prepared<'a>>,
 ) -> Result<(), Stop> {
-    prepare_hex(rt, alloc, forms.hex, rom, others)?;
+    if let Some(name) = forms.hex {
+        prepare(rt, alloc, name, text_of_hex(alloc, rom)?, others)?;
+    }
     if forms.even.is_none() && forms.odd.is_none() {
         return Ok(());
     }
@@ -236,21 +213,6 @@ fn prepare_half<'a, R: Files>(
         Some(name) => prepare(rt, alloc, name, bytes, others),
         None => Ok(()),
     }
-}
-
-// Puts the ROM as Intel HEX behind the others, where it is wanted.
-fn prepare_hex<'a, R: Files>(
-    rt: &R,
-    alloc: Global,
-    name: Option<&'a str>,
-    rom: &[u8],
-    others: &mut Vec<Prepared<'a>>,
-) -> Result<(), Stop> {
-    let Some(name) = name else {
-        return Ok(());
-    };
-    let text = text_of_hex(alloc, rom)?;
-    prepare(rt, alloc, name, text, others)
 }
 
 // The code as a listing. Since the program was built, nothing but memory can be wanting; another fault would be told as what it is.

@@ -98,7 +98,7 @@ struct Uses<'m, 'a> {
 
 impl Uses<'_, '_> {
     /// Whether a declared name is no literal's, and is neither spelled elsewhere nor shared.
-    fn lack(&self, alloc: Global, declared: &Declared<'_>) -> Result<bool, AllocError> {
+    fn is_unused(&self, alloc: Global, declared: &Declared<'_>) -> Result<bool, AllocError> {
         let is_shared = self.shared.get(declared.at).copied().unwrap_or(false);
         let name = normal(alloc, declared.token.text)?;
         let is_apart = is_shared || is_literal(self.tokens, declared.at);
@@ -122,7 +122,7 @@ pub(crate) fn add_unused(
         shared: &shared,
     };
     for declared in all_names(alloc, tokens)? {
-        if uses.lack(alloc, &declared)? {
+        if uses.is_unused(alloc, &declared)? {
             found.add(Found {
                 module,
                 number: number_of(&declared.token),

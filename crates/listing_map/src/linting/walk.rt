@@ -355,8 +355,8 @@ impl Walk<'_> {
     #[cycle(linting_statement)]
     fn arm(&self, statement: &Statement, is_come_to: bool, found: &mut Noted<Found>) {
         if is_come_to {
-            self.statement(statement, found)
-        } else {}
+            self.statement(statement, found);
+        }
     }
 
     /// The cases that may be selected.
