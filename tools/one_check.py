@@ -7,6 +7,7 @@ nothing all the same: the folder is removed before it begins, and nothing else w
 line then has the word incremental=trusted, which says that its verdict trusts whoever can write to that folder. That word, and no
 other, is let through beside those that `rt ci` lets through. Such a library is built whole, and not by its statements alone, which the kit
 has for no check that keeps its work. A program is compiled over what its check kept, which the compilers' runs of the prover look through again.
+Where a program's check keeps nothing both compilers compile it side by side, and one line says when it can be run.
 All other crates are proved as `rt ci` does, which takes less time, and their libraries hold their statements alone. These get their stamp, so that
 `rt check` takes them as they are: in a room they lie over the very libraries that they were built over.
 
@@ -15,7 +16,7 @@ lines, which is twice as much for the crates on top, so that these waited for on
 others behind it gets three quarters of the processors, where `rt ci` shares them alike among all that may begin: plm_syntax, on
 which most others wait, got one. It leaves memory for the next one: where acceptance's tests took all, plm86 waited for their end.
 A check begins and ends with a minute or two in one process, and in between its jobs wait for one another: so half as many jobs more than
-there are processors may run, and what is far from leading gives way. What is near does not: what comes to lead may wait for it.
+there are processors may run, and all give way to the check that leads.
 
 Several jobs of a check take more than one in all, of plm_token a third to a half. So on two processors each check has one job, but for the one with the longest
 chain behind it where what else there is to do takes less time than it does: else a processor would wait for it.
@@ -47,8 +48,8 @@ KEPT = "out/incremental"
 A_LINE, A_JOB = 0.1, 0.15
 # Seconds of a task for which no memory is kept.
 SHORT = 60
-# A check gives way where the chain behind it is less than this part of the longest, and by so much: what Linux calls its niceness.
-FAR, GIVES_WAY = 0.65, 5
+# By how much checks give way to the one that leads, where the chain behind them is near the longest, and where it is less than this part of it: what Linux calls their niceness.
+NEAR_GIVES, FAR_GIVES, FAR = 3, 8, 0.65
 # The parts of the kit's crates that are called or changed here, and what they take.
 FORMS = {
     "build_rlib": ("self", "flags", "anew"),
@@ -122,11 +123,18 @@ def jobs_within(memory, needs):
     return 1 if memory < needs else 2 + int((memory / needs - 1) / A_JOB)
 
 
-def giving_way(call):
-    """Returns the call so that what it starts gives way to others. (A thread has a niceness of its own, which what it starts begins with.)"""
+def gives_way(chain, longest):
+    """Returns by how much a check gives way that has such a chain behind it. (The superuser alone may take it back where a check comes to lead: for others what is near gives none.)"""
+    near = NEAR_GIVES if os.geteuid() == 0 else 0
+    return 0 if chain >= longest else near if chain >= FAR * longest else FAR_GIVES
+
+
+def giving_way(call, by, threads):
+    """Returns the call so that what it starts gives way to others. (A thread has a niceness of its own, which what it starts begins with: its number is put into threads.)"""
 
     def patient(*words):
-        os.setpriority(os.PRIO_PROCESS, threading.get_native_id(), GIVES_WAY)
+        threads.append(threading.get_native_id())
+        os.setpriority(os.PRIO_PROCESS, threads[-1], by)
         return call(*words)
 
     def in_its_own_thread(*words):
@@ -134,6 +142,19 @@ def giving_way(call):
             return own.submit(patient, *words).result()
 
     return in_its_own_thread
+
+
+def leads(name, threads):
+    """Has these threads, and what they have started in the folder of the crate of this name, give way no longer."""
+    folder, found = f"{os.getcwd()}/crates/{name}", [*threads]
+    for process in filter(str.isdigit, os.listdir("/proc")):
+        with contextlib.suppress(OSError):
+            if os.readlink(f"/proc/{process}/cwd") == folder:
+                found += map(int, os.listdir(f"/proc/{process}/task"))
+    for it in found:
+        # (one may have ended by now)
+        with contextlib.suppress(OSError):
+            os.setpriority(os.PRIO_PROCESS, it, 0)
 
 
 def in_lanes(rt, tasks):
@@ -147,11 +168,14 @@ def in_lanes(rt, tasks):
     are_few = processors < 3
     of_leader, lanes = math.ceil(0.75 * processors), processors + processors // 2
     left, running, given = sorted(tasks, key=lambda it: -behind[it]), {}, {}
+    threads = {}
     # (13f ends what it began where it is itself ended; 13b has no such word)
     ending = getattr(rt, "ending", contextlib.nullcontext)
     with ending(), ThreadPoolExecutor(lanes) as pool:
         while left or running:
             leader = max([*left, *(key for key, _, _ in running.values())], key=lambda it: behind[it])
+            if leader in threads:
+                leads(leader[0], threads.pop(leader))
             ready = [it for it in left if all(below in given for below in tasks[it][0])]
             for at, key in enumerate(ready):
                 _, _, needs, call = tasks[key]
@@ -166,7 +190,8 @@ def in_lanes(rt, tasks):
                     most = min(4, processors) if is_spread else 1
                     jobs = max(1, min(most, idle, wanted, jobs_within(spare, needs)))
                     left.remove(key)
-                    begun = pool.submit(giving_way(call) if behind[key] < FAR * behind[leader] else call, given, jobs)
+                    by = gives_way(behind[key], behind[leader])
+                    begun = pool.submit(giving_way(call, by, threads.setdefault(key, [])) if by else call, given, jobs)
                     running[begun] = key, held_by(needs, jobs), jobs
             for it in wait(running, return_when=FIRST_COMPLETED).done:
                 given[running.pop(it)[0]] = it.result()
@@ -197,6 +222,24 @@ def change(rt, kept):
                     it.write(self.stamp())
             return status
 
+        def by_llvm(self, words, to):
+            """Compiles a program by LLVM, and says that it can be run."""
+            status = super().compile_by("llvm", words, to)
+            if not status:
+                # (one write, so that no other line comes into it)
+                print(f"one_check: {self.name} is built\n", end="", flush=True)
+            return status
+
+        def compile_by(self, backend, words, to):
+            """Compiles a program by both compilers side by side where rt ci asks for the first, which it does first."""
+            if backend == "rattle":
+                return self.of_rattle
+            with ThreadPoolExecutor(1) as own:
+                of_rattle = own.submit(super().compile_by, "rattle", words, to)
+                status = self.by_llvm(words, to)
+                self.of_rattle = of_rattle.result()
+            return status
+
         def ci(self, flags, tests):
             if tests or not self.is_program or self.name not in kept:
                 return super().ci(flags, tests)
@@ -205,7 +248,9 @@ def change(rt, kept):
             words = self.words([*flags, "--incremental", KEPT], keeps=False)
             status = self.prove(["check", *words])
             words = [*words, "--toolchain", f"{rt.KIT}/toolchain"]
-            return status or self.compile_by("llvm", words, f"out/{self.name}") or self.compile_by("rattle", words, f"out/{self.name}")
+            to = f"out/{self.name}"
+            # (one after the other: both go by what is kept)
+            return status or self.by_llvm(words, to) or super().compile_by("rattle", words, to)
 
     rt.Crate = Keeping
     pattern = rt.rtlib.VERDICT

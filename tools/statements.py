@@ -14,6 +14,7 @@ import kit
 
 # A token is a kind and a text, as a JSON string (`rattle fmt --help`). These are of the code.
 CODE = "Code"
+HEAD_WORDS = ('"pub"', '"unsafe"', '"extern"', '"async"')
 OPENING, CLOSING = ('"("', '"["', '"{"'), ('")"', '"]"', '"}"')
 
 
@@ -84,7 +85,8 @@ def end_of_head_part(tokens, at):
         return end_of(tokens, at + 1 + is_code(tokens, at, "#", "!"))
     if is_code(tokens, at, "pub", "("):
         return end_of(tokens, at + 1)
-    return at + any(is_code(tokens, at, it) for it in ("pub", "unsafe", "extern", "async"))
+    kind, text = tokens[at]
+    return at + (kind == CODE and text in HEAD_WORDS)
 
 
 def block_of_impl(tokens, at):
@@ -101,15 +103,16 @@ def without_own_functions(tokens):
         part, item = end_of_head_part(tokens, at), item_at(tokens, at)
         if part > at:
             is_public = is_public or is_code(tokens, at, "pub") and not is_code(tokens, at, "pub", "(")
-            kept, at = kept + tokens[at:part], part
+            kept += tokens[at:part]
+            at = part
             continue
         end = at + 1 if item is Item.NEITHER else end_of(tokens, body_of(tokens, at))
         if is_code(tokens, at, "impl"):
             end, of_trait = block_of_impl(tokens, at)
         if item is Item.FUNCTION and not is_public and at >= of_trait:
-            kept = kept[:head]
+            del kept[head:]
         else:
-            kept = kept + tokens[at:end]
+            kept += tokens[at:end]
         at, head, is_public = end, len(kept), False
     return kept
 
