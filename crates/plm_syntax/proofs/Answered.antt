@@ -1,6 +1,6 @@
 -- What a run over the tokens that came out says of the answer.
 use Rattle.std.proofs.Common.{◌≡◌, ℕ, zero, suc, ◌+◌, ◌-◌, ◌≤◌, List, [], ◌∷◌, ◌++◌, cond, Option, Some, None, Result, Ok, Err, refl, sym, ap, ◌∙◌, subst, arith, length, length-append, Bool, ◌⊎◌, inl, inr}
-use Rattle.std.specs.Prelude.{slice_get}
+use Rattle.std.specs.Prelude.{slice_get, IfOk, IfErr, IfSome, IfNone}
 use Rattle.std.proofs.lemmas.List.{append-nil}
 use Rattle.word86.specs.declared.number.Number.{Number}
 use Rattle.plm_token.specs.declared.token.Keyword.TheVariants as key
@@ -22,7 +22,9 @@ use Rattle.plm_syntax.specs.Literals.{Expanded, expansion_of}
 use Rattle.plm_syntax.specs.Answer.{Answers}
 use Rattle.plm_syntax.specs.Faults.{terminal_of, tokens_from, text_end, text_tokens, line_from, terminal_at, opening_token, FaultIs, refused, too_deep, stopped}
 use Rattle.plm_syntax.specs.Inner.Answer.{refusal_at, deep_at, fault_of, LeftIn}
-use Rattle.plm_syntax.specs.Inner.Parsed.{stream, place_at, Fails}
+use Rattle.plm_syntax.specs.declared.cursor.Cursor.{Cursor}
+use Rattle.plm_syntax.specs.Inner.Parsed.{stream, ahead, place_at, Fails}
+use Rattle.plm_syntax.specs.Inner.Blocks.{Parses}
 use Rattle.plm_syntax.proofs.Limits.{first_wrong, first_deep, takes_modules}
 use Rattle.plm_syntax.proofs.Along.{ahead_length}
 use Rattle.plm_syntax.proofs.TextEnd.{whole_text, refused_text, deep_text, left_within}
@@ -134,6 +136,24 @@ answer_tree x o ts m e t n h = answers_tree m o ts (sym (ap (λ (y : Expanded). 
 
 pub answer_stop : (x : Expanded) (o : Out) (ts : List Token) (number : Number) (line : ℕ) (r : Reading) → x ≡ expansion_of o → x.tokens ≡ lexemes ts → x.stop ≡ Some (number, line) → run 64 start [] (stream 0 ts) ≡ Ok r → Answers (Err (At 0 line number)) o
 answer_stop x o ts number line r e t n h = (refl, answers_stop number line o ts r (sym (ap (λ (y : Expanded). y.tokens) e) ∙ t) (sym (ap (λ (y : Expanded). y.stop) e) ∙ n) h)
+
+-- the same of what was read, whatever it is
+
+from_start : (c : Cursor) → c.number ≡ 0 → run 64 start [] (stream 0 c.tokens.now) ≡ run 64 start [] (ahead c)
+from_start c e = ap (λ (n : ℕ). run 64 start [] (stream n c.tokens.now)) (sym e)
+
+pub left_of : (c : Cursor) (x : Result Module Failure) → c.number ≡ 0 → Parses c x → IfErr x (λ f. LeftIn f (length c.tokens.now))
+left_of c (Ok m) e h = tt
+left_of c (Err f) e h = left_in f c.tokens.now (subst (Fails f) (sym (from_start c e)) h)
+
+pub answer : (x : Expanded) (o : Out) (c : Cursor) (y : Result Module Failure) (r : Result Module Fault) → x ≡ expansion_of o → x.tokens ≡ lexemes c.tokens.now → c.number ≡ 0 → Parses c y
+    → IfOk y (λ m. IfNone x.stop (r ≡ Ok m)) → IfOk y (λ m. IfSome x.stop (λ s. r ≡ Err (At 0 s.1 s.0))) → IfErr y (λ f. r ≡ Err (fault_of f (lexemes c.tokens.now) x.stop)) → Answers r o
+answer x o c (Ok m) r e t n h tree stop failure = by_stop x.stop refl tree stop
+  where
+    by_stop : (s : Option (Number × ℕ)) → x.stop ≡ s → IfNone s (r ≡ Ok m) → IfSome s (λ s. r ≡ Err (At 0 s.1 s.0)) → Answers r o
+    by_stop None q is _ = subst (λ (k : Result Module Fault). Answers k o) (sym is) (answer_tree x o c.tokens.now m e t q (from_start c n ∙ h))
+    by_stop (Some s) q _ is = subst (λ (k : Result Module Fault). Answers k o) (sym is) (answer_stop x o c.tokens.now s.0 s.1 _ e t q (from_start c n ∙ h))
+answer x o c (Err f) r e t n h tree stop failure = subst (λ (k : Result Module Fault). Answers k o) (sym failure) (answer_failure x o c.tokens.now f (fault_of f (lexemes c.tokens.now) x.stop) e t refl (subst (Fails f) (sym (from_start c n)) h))
 
 -- ---- the kind of a token
 

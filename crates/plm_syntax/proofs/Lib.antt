@@ -17,6 +17,7 @@ pub mod Turned
 pub mod Replaced
 pub mod Along
 pub mod Joined
+pub mod Gathered
 pub mod Seen
 pub mod NextExpression
 pub mod NextDeclaration

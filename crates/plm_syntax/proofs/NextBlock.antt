@@ -22,7 +22,7 @@ use Rattle.plm_token.specs.declared.token.Token.{Token}
 use Rattle.std.specs.Prelude.{◌&&◌, IsErrAnd}
 use Rattle.std.proofs.lemmas.Bool.{ltb-true, ltb-false, true≢false, false≢true}
 use Rattle.plm_syntax.specs.Inner.Parsed.{ahead, next_of, first_of, stream, place_at, is_name, is_number, Takes, Finishes, Fails}
-use Rattle.plm_syntax.specs.Inner.Blocks.{items_part, statements_part, LeadsItem, WithinItem, Parses, begins, begins_second, is_label, is_heading, begins_statement, Labels}
+use Rattle.plm_syntax.specs.Inner.Blocks.{items_part, statements_part, LeadsItem, Parses, begins, begins_second, is_label, is_heading, begins_statement, Labels}
 use Rattle.plm_syntax.specs.declared.tree.Name.{Name as NameTree}
 use Rattle.plm_syntax.proofs.Steps.{go, trace_step, same_trace, ruled, feed_want, IsDecided, ruled_behind, ruled_otherwise}
 use Rattle.plm_syntax.proofs.DriveExpression.{Some_leaf, some_leaf, pushed, a_reference}
@@ -425,14 +425,3 @@ pub finishes : (m : Module) (c rest : Cursor) (r : Result Module Failure) → Fi
     → (is_finish (next_of rest) ≡ false → run 64 start [] (ahead c) ≡ Err (Refusal (length rest.tokens.now))) → (rest.tokens.now ≡ [] → run 64 start [] (ahead c) ≡ finished (module_of m)) → Parses c r
 finishes m c rest (Ok x) h stop go = go h.1 ∙ ap (λ (y : Module). finished (module_of y)) (sym h.0)
 finishes m c rest (Err f) h stop go = refusal f rest h.1 (stop h.0)
-
--- ---- an item, where there is one
-
-pub item_there : (c : Cursor) (room : ℕ) {x : Option (Item × Cursor)} {y : Item × Cursor} → x ≡ Some y → LeadsItem (Ok x) c room → LeadsItem (Ok (Some y)) c room
-item_there c room e h = subst (λ (z : Option (Item × Cursor)). LeadsItem (Ok z) c room) e h
-
-pub no_item : (c : Cursor) (room : ℕ) {x : Option (Item × Cursor)} → x ≡ None → LeadsItem (Ok x) c room → LeadsItem (Ok None) c room
-no_item c room e h = subst (λ (z : Option (Item × Cursor)). LeadsItem (Ok z) c room) e h
-
-pub item_within : (c : Cursor) {x : Option (Item × Cursor)} {y : Item × Cursor} → x ≡ Some y → WithinItem (Ok x) c → WithinItem (Ok (Some y)) c
-item_within c e h = subst (λ (z : Option (Item × Cursor)). WithinItem (Ok z) c) e h

@@ -1,6 +1,7 @@
 //! A module's tree from its tokens.
 
-ghost use Rattle.std.specs.Prelude.{◌≡◌, ◌≤◌, ℕ, List, length};
+ghost use Rattle.std.specs.Prelude.{◌≡◌, ◌≤◌, ℕ, List, length, Ok, Err, IfOk, IfErr, IfSome, IfNone};
+ghost use Rattle.word86.specs.declared.fault.Fault.TheVariants.{At};
 ghost use Rattle.plm_token.specs.declared.token.Keyword.TheVariants.{Procedure};
 ghost use Rattle.plm_syntax.specs.declared.tree.Position.{Position};
 ghost use Rattle.plm_syntax.specs.Terminal.{is_key};
@@ -93,6 +94,26 @@ fn fault(failure: Failure, tokens: &[Token<'_>], stop: Option<(Number, u32)>) ->
     }
 }
 
+/// What was read of these tokens, unless their replacement stopped, or the fault for which nothing was read.
+fn answered<T: Drop>(
+    read: Result<T, Failure>,
+    tokens: &[Token<'_>],
+    stop: Option<(Number, u32)>,
+) -> Result<T, Fault>
+    requires { IfErr read (λ f. LeftIn f (length tokens.now)) }
+    ensures tree { IfOk read (λ t. IfNone stop (result ≡ Ok t)) }
+    ensures stop { IfOk read (λ t. IfSome stop (λ s. result ≡ Err (At 0 s.1 s.0))) }
+    ensures failure { IfErr read (λ f. result ≡ Err (fault_of f (lexemes tokens.now) stop)) }
+{
+    match read {
+        Ok(tree) => match stop {
+            None => Ok(tree),
+            Some((number, line)) => Err(Fault::At(0, line, number)),
+        },
+        Err(failure) => Err(fault(failure, tokens, stop)),
+    }
+}
+
 /// The tree of a module's tokens, literals replaced, or its first fault: E201 to E205, or a fault in a literal's text, E101, E103, E104 or E105.
 pub fn parse<'a>(alloc: Global, tokens: Vec<Token<'a>>) -> Result<Module<'a>, Fault>
     ensures { Answers result (expanded (lexemes tokens.entry.items)) }
@@ -103,11 +124,5 @@ pub fn parse<'a>(alloc: Global, tokens: Vec<Token<'a>>) -> Result<Module<'a>, Fa
         tokens: out,
         number: 0,
     };
-    match module(alloc, start) {
-        Ok(tree) => match expansion.stop {
-            None => Ok(tree),
-            Some((number, line)) => Err(Fault::At(0, line, number)),
-        },
-        Err(failure) => Err(fault(failure, out, expansion.stop)),
-    }
+    answered(module(alloc, start), out, expansion.stop)
 }

@@ -247,12 +247,9 @@ pub(crate) fn names<'t, 'a>(
     ensures within { Within result cursor.entry }
 {
     let mut list = Vec::new(alloc);
-    let (first, mut rest) = cursor.expect_name()?;
-    list.push(first)?;
+    let mut rest = pushed(&mut list, cursor.expect_name())?;
     while let Some((_, after)) = rest.mark(Mark::Comma) {
-        let (next, behind) = after.expect_name()?;
-        list.push(next)?;
-        rest = behind;
+        rest = pushed(&mut list, after.expect_name())?;
     }
     rest.close(list, Mark::RightParenthesis)
 }

@@ -2,6 +2,8 @@
 //!
 //! These hold a value over a step that may fail, for values of any type: so what then becomes of the value is proved here alone.
 
+ghost use Rattle.std.specs.Prelude.{◌≡◌, ◌++◌, ◌∷◌, [], None, Some, Ok, Err, IfOk, IfErr, IfSome, IfNone};
+ghost use Rattle.plm_syntax.specs.declared.failure.Failure.TheVariants.{Memory};
 ghost use Rattle.plm_syntax.specs.Inner.Parsed.{Closes, IsBoxed, IsBeside, IsPushed};
 
 use crate::cursor::Cursor;
@@ -55,4 +57,23 @@ pub(crate) fn pushed<'t, 'a, T: Drop>(
     let (value, rest) = read?;
     list.push(value)?;
     Ok(rest)
+}
+
+/// The same where there may be nothing to read.
+pub(crate) fn gathered<'t, 'a, T: Drop>(
+    list: &mut Vec<T>,
+    read: Result<Option<(T, Cursor<'t, 'a>)>, Failure>,
+) -> Result<Option<Cursor<'t, 'a>>, Failure>
+    ensures none { IfOk read.entry (λ found. IfNone found ((result ≡ Ok None) × (list.new.items ≡ list.old.items))) }
+    ensures some { IfOk read.entry (λ found. IfSome found (λ x. IfOk result (λ rest. (rest ≡ Some x.1) × (list.new.items ≡ list.old.items ++ x.0 ∷ [])))) }
+    ensures memory { IfOk read.entry (λ found. IfErr result (λ f. f ≡ Memory)) }
+    ensures err { IfErr read.entry (λ f. result ≡ Err f) }
+{
+    match read? {
+        None => Ok(None),
+        Some((value, rest)) => {
+            list.push(value)?;
+            Ok(Some(rest))
+        }
+    }
 }

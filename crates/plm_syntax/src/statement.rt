@@ -20,7 +20,7 @@ use crate::cursor::Cursor;
 use crate::declaration::{elements, names, scalar_at};
 use crate::expression::{expression, reference};
 use crate::failure::Failure;
-use crate::parts::{MOSTLY, beside, boxed, closing, pushed};
+use crate::parts::{MOSTLY, beside, boxed, closing, gathered, pushed};
 use crate::tree::{
     Basic, Block, Bounds, Expression, Item, Linkage, Module, Name, Numeral, Position, Procedure,
     Scalar, Statement,
@@ -56,8 +56,7 @@ fn block<'t, 'a>(
 {
     let mut items = Vec::new(alloc);
     let mut rest = cursor;
-    while let Some((item, behind)) = item(alloc, room, rest)? {
-        items.push(item)?;
+    while let Some(behind) = gathered(&mut items, item(alloc, room, rest))? {
         rest = behind;
     }
     let ((statements, end), behind) = statements(alloc, room, label, rest)?;
@@ -245,12 +244,10 @@ fn end<'t, 'a>(
     ensures within { Within result cursor.entry }
 {
     let Some((name, behind)) = cursor.name() else {
-        let rest = cursor.expect_mark(Mark::Semicolon)?;
-        return Ok((None, rest));
+        return cursor.close(None, Mark::Semicolon);
     };
     if names_block(label, name) {
-        let rest = behind.expect_mark(Mark::Semicolon)?;
-        return Ok((Some(name), rest));
+        return behind.close(Some(name), Mark::Semicolon);
     }
     Err(cursor.refuse())
 }
@@ -337,16 +334,11 @@ fn assignment<'t, 'a>(
     ensures within { Within result cursor.entry }
 {
     let mut targets = Vec::with_capacity(alloc, MOSTLY)?;
-    let (first, mut rest) = reference(alloc, room, name, cursor)?;
-    let mut last = first;
+    let mut rest = pushed(&mut targets, reference(alloc, room, name, cursor))?;
     while let Some((_, after)) = rest.mark(Mark::Comma) {
-        targets.push(last)?;
         let (name, begun) = after.expect_name()?;
-        let (next, behind) = reference(alloc, room, name, begun)?;
-        last = next;
-        rest = behind;
+        rest = pushed(&mut targets, reference(alloc, room, name, begun))?;
     }
-    targets.push(last)?;
     let after = rest.expect_mark(Mark::Equal)?;
     let (value, end) = closing_expression(alloc, room, after)?;
     Ok((Basic::Assign(targets, value), end))
@@ -597,8 +589,7 @@ fn range<'t, 'a>(
     let (start, bound) = expression_before(alloc, room, Keyword::To, begun)?;
     let (ends, behind) = beside(start, expression(alloc, room, bound))?;
     let (((first, last), step), rest) = beside(ends, step(alloc, room, behind))?;
-    let bounds = Box::new(alloc, Bounds { first, last, step })?;
-    Ok((bounds, rest))
+    boxed(alloc, Ok((Bounds { first, last, step }, rest)))
 }
 
 /// The step of a DO with an index, where the word BY comes next, and the semicolon after it.

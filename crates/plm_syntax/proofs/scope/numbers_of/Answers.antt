@@ -18,3 +18,9 @@ loop-token-preserved c =
       omega (arith, c.in_ok-push.ensures.len, c.loop-token.invariant.1),
       kept_along (names_in c.args.names.now) before after c.loop-token.invariant.2 c.number.ensures.kept,
     )
+
+pub returns-in_err-number-clause-kept : goal.returns-in_err-number-clause-kept
+returns-in_err-number-clause-kept c = kept_along (names_in c.args.names.now) (names_in c.loop-token.names) (names_in c.number.new.self) c.loop-token.invariant.2 c.number.ensures.kept
+
+pub returns-in_err-push-clause-kept : goal.returns-in_err-push-clause-kept
+returns-in_err-push-clause-kept c = kept_along (names_in c.args.names.now) (names_in c.loop-token.names) (names_in c.number.new.self) c.loop-token.invariant.2 c.number.ensures.kept

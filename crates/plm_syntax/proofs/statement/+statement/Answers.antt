@@ -1,4 +1,4 @@
-use Rattle.std.proofs.Common.{◌∷◌, ◌++◌, List, length, Some, None, refl, sym, ap, ◌∙◌, arith}
+use Rattle.std.proofs.Common.{◌∷◌, ◌++◌, List, length, Option, Some, None, Result, Ok, refl, sym, ap, ◌∙◌, subst, arith}
 use Rattle.plm_syntax.specs.declared.tree.Position.{Position}
 use Rattle.plm_syntax.specs.declared.tree.Name.{Name as NameTree}
 use Rattle.plm_syntax.specs.declared.tree.Statement.{Statement}
@@ -6,18 +6,21 @@ use Rattle.std.specs.Global.{Box}
 use Rattle.plm_syntax.specs.declared.tree.Expression.{Expression}
 use Rattle.plm_syntax.specs.declared.tree.Bounds.{Bounds}
 use Rattle.plm_syntax.specs.declared.tree.Item.{Item}
+use Rattle.plm_syntax.specs.declared.cursor.Cursor.{Cursor}
+use Rattle.plm_syntax.specs.declared.failure.Failure.{Failure}
 use Rattle.plm_syntax.specs.Tree.{BlockT, ProcedureI, NamesT, names, no_names, ReferenceE, no_references, StatementsT, statements, no_statements, ItemsT, items, no_items, no_elements, DeclareI, Labelled, IfS, IfElseS, DoS, WhileS, CaseS, IterateS, BlockOf}
 use Rattle.plm_syntax.specs.View.{block_of, name_of, base_of, names_of, expression_of, elements_of, statement_of, statements_of, items_of, step_of, counted, linkage_of}
 use Rattle.plm_syntax.specs.Inner.Symbol.{Symbol, depth, push, Want, Do, Leave, ExpressionR, NameR, NamesR, ReferencesR, StatementR, StatementsR, ItemsR, ElementsR, StatementG, LeadG, ArmG, OtherwiseG, DoG, StatementsG, ItemsG, ElementG, MoreElementsG}
 use Rattle.plm_syntax.specs.Inner.Machine.{plain, add_label, join_arms, make_if, make_do, make_while, make_case, make_iterate, no_statement_yet, and_more, make_declare, make_procedure, procedure_symbols, run}
 use Rattle.plm_syntax.specs.Inner.Parsed.{ahead, next_of}
 use Rattle.plm_syntax.specs.Faults.{terminal_of}
-use Rattle.plm_syntax.specs.Inner.Blocks.{items_part, statements_part, read_statement, read_basic, read_block, read_body, read_governed, read_procedure, read_header, read_range, read_arm, iterate_goals, procedure_goals, no_parameters_read}
+use Rattle.plm_syntax.specs.Inner.Blocks.{LeadsItem, WithinItem, items_part, statements_part, read_statement, read_basic, read_block, read_body, read_governed, read_procedure, read_header, read_range, read_arm, iterate_goals, procedure_goals, no_parameters_read}
 use Rattle.plm_syntax.specs.Inner.Parts.{read_expression, reference_read, read_elements}
 use Rattle.plm_syntax.proofs.Rows.{name_pushed, statement_pushed, item_pushed, statement_row}
 use Rattle.plm_syntax.proofs.Along.{out_of_memory, quiet, taken, refused, entered, too_deep, deeper, failed, refusal, depth_failure, arrives_behind, arrives_left, fails_behind, ahead_length}
 use Rattle.plm_syntax.proofs.Joined.{arrived, ended, lost, stays_less, boxes, besides}
-use Rattle.plm_syntax.proofs.NextBlock.{no_colon, do_refused, no_else, target_goes, statements_go, arm_goes, arm_too_deep, arm_refused, statements_begin, block_parts, failed_item, deep_at_length, item_there, no_item, item_within}
+use Rattle.plm_syntax.proofs.NextBlock.{no_colon, do_refused, no_else, target_goes, statements_go, arm_goes, arm_too_deep, arm_refused, statements_begin, block_parts, failed_item, deep_at_length}
+use Rattle.plm_syntax.proofs.Gathered.{one_there, none_there, one_lost}
 use Rattle.plm_syntax.proofs.Built.{block_there, procedure_there}
 use Rattle.plm_syntax.proofs.statement.+statement.Goals as goal
 
@@ -271,27 +274,38 @@ pub block-loop-items-init : goal.block-loop-items-init
 block-loop-items-init t c = record { leads = λ s v d. ap (λ (xs : List Item). run 64 (Want (ItemsG (base_of c.args.label)) ∷ s) (ItemsR (items_of xs) ∷ v) (ahead c.args.cursor)) (sym c.new-items.ensures.items); shorter = omega arith }
 
 pub block-loop-items-preserved : goal.block-loop-items-preserved
-block-loop-items-preserved t c = record {
-  leads = λ s v d. c.loop-items.invariant.leads s v d
-      ∙ (item_there c.loop-items.rest c.args.room c.in-Some.is c.in_ok-item.ensures.leads) (base_of c.args.label) (items_of c.loop-items.items.items) s v d
-      ∙ ap (λ (xs : ItemsT). run 64 (Want (ItemsG (base_of c.args.label)) ∷ s) (ItemsR xs ∷ v) (ahead c.in-Some.behind)) (sym (item_pushed c.loop-items.items.items c.in-Some.item no_items))
-      ∙ ap (λ (xs : List Item). run 64 (Want (ItemsG (base_of c.args.label)) ∷ s) (ItemsR (items_of xs) ∷ v) (ahead c.in-Some.behind)) (sym c.in_ok-push.ensures.items);
-  shorter = omega (arith, c.loop-items.invariant.shorter, item_within c.loop-items.rest c.in-Some.is c.in_ok-item.ensures.within);
-}
+block-loop-items-preserved t c =
+    let is = one_there c.item.result c.loop-items.items.items _ c.gathered.result c.in-Some.behind c.gathered.ensures.none c.gathered.ensures.some c.gathered.ensures.err (c.in_ok-behind.was ∙ ap (λ (o : Option Cursor). Ok o) c.in-Some.is) in record {
+      leads = λ s v d. c.loop-items.invariant.leads s v d
+          ∙ (subst (λ (x : Result (Option (Item × Cursor)) Failure). LeadsItem x c.loop-items.rest c.args.room) is.1 c.item.ensures.leads) (base_of c.args.label) (items_of c.loop-items.items.items) s v d
+          ∙ ap (λ (xs : ItemsT). run 64 (Want (ItemsG (base_of c.args.label)) ∷ s) (ItemsR xs ∷ v) (ahead c.in-Some.behind)) (sym (item_pushed c.loop-items.items.items is.0 no_items))
+          ∙ ap (λ (xs : List Item). run 64 (Want (ItemsG (base_of c.args.label)) ∷ s) (ItemsR (items_of xs) ∷ v) (ahead c.in-Some.behind)) (sym is.2);
+      shorter = omega (arith, c.loop-items.invariant.shorter, subst (λ (x : Result (Option (Item × Cursor)) Failure). WithinItem x c.loop-items.rest) is.1 c.item.ensures.within);
+    }
 
-pub block-returns-in_err-item-clause-leads : goal.block-returns-in_err-item-clause-leads
-block-returns-in_err-item-clause-leads t c = λ s v d. failed read_block s v c.from_residual.result c.in_err-item.field-0.0 c.from_residual.ensures.1
+pub block-loop-items-smaller : goal.block-loop-items-smaller
+block-loop-items-smaller t c =
+    let is = one_there c.item.result c.loop-items.items.items _ c.gathered.result c.in-Some.behind c.gathered.ensures.none c.gathered.ensures.some c.gathered.ensures.err (c.in_ok-behind.was ∙ ap (λ (o : Option Cursor). Ok o) c.in-Some.is) in
+    omega (arith, subst (λ (x : Result (Option (Item × Cursor)) Failure). WithinItem x c.loop-items.rest) is.1 c.item.ensures.within)
+
+pub block-returns-in_err-behind-clause-leads : goal.block-returns-in_err-behind-clause-leads
+block-returns-in_err-behind-clause-leads t c = λ s v d. failed read_block s v c.from_residual.result c.in_err-behind.field-0.0 c.from_residual.ensures.1
     (c.loop-items.invariant.leads s v d)
-    (c.in_err-item.ensures.leads (base_of c.args.label) (items_of c.loop-items.items.items) s v d)
+    (one_lost c.item.result c.gathered.result c.in_err-behind.field-0.0 c.loop-items.rest c.args.room c.gathered.ensures.memory c.gathered.ensures.err c.in_err-behind.was c.item.ensures.leads (base_of c.args.label) (items_of c.loop-items.items.items) s v d)
 
 pub block-returns-in_err-statements-clause-leads : goal.block-returns-in_err-statements-clause-leads
-block-returns-in_err-statements-clause-leads t c = λ s v d. failed read_block s v c.from_residual-in_err-statements.result c.in_err-statements.field-0.0 c.from_residual-in_err-statements.ensures.1
+block-returns-in_err-statements-clause-leads t c = λ s v d.
+    let no = none_there c.item.result c.loop-items.items.items _ c.gathered.result c.gathered.ensures.none c.gathered.ensures.some c.gathered.ensures.err (c.in_ok-behind.was ∙ ap (λ (o : Option Cursor). Ok o) c.in_default.is) in
+    failed read_block s v c.from_residual-in_err-statements.result c.in_err-statements.field-0.0 c.from_residual-in_err-statements.ensures.1
     (c.loop-items.invariant.leads s v d
-    ∙ (no_item c.loop-items.rest c.args.room c.in_default.is c.in_ok-item.ensures.leads) (base_of c.args.label) s (ItemsR (items_of c.loop-items.items.items) ∷ v))
+    ∙ (subst (λ (x : Result (Option (Item × Cursor)) Failure). LeadsItem x c.loop-items.rest c.args.room) no.0 c.item.ensures.leads) (base_of c.args.label) s (ItemsR (items_of c.loop-items.items.items) ∷ v))
     (c.in_err-statements.ensures.leads s (ItemsR (items_of c.loop-items.items.items) ∷ v) d)
 
 pub block-returns-clause-leads : goal.block-returns-clause-leads
-block-returns-clause-leads t c = λ s v d. block_there c.loop-items.items c.in_ok-statements.statements c.in_ok-statements.end s v c.in_ok-statements.behind
+block-returns-clause-leads t c = λ s v d.
+    let no = none_there c.item.result c.loop-items.items.items _ c.gathered.result c.gathered.ensures.none c.gathered.ensures.some c.gathered.ensures.err (c.in_ok-behind.was ∙ ap (λ (o : Option Cursor). Ok o) c.in_default.is) in
+    block_there c.gathered.new.list c.in_ok-statements.statements c.in_ok-statements.end s v c.in_ok-statements.behind
     (c.loop-items.invariant.leads s v d
-    ∙ (no_item c.loop-items.rest c.args.room c.in_default.is c.in_ok-item.ensures.leads) (base_of c.args.label) s (ItemsR (items_of c.loop-items.items.items) ∷ v)
-    ∙ c.in_ok-statements.ensures.leads s (ItemsR (items_of c.loop-items.items.items) ∷ v) d)
+    ∙ (subst (λ (x : Result (Option (Item × Cursor)) Failure). LeadsItem x c.loop-items.rest c.args.room) no.0 c.item.ensures.leads) (base_of c.args.label) s (ItemsR (items_of c.loop-items.items.items) ∷ v)
+    ∙ ap (λ (xs : List Item). run 64 (Want (StatementsG (base_of c.args.label)) ∷ s) (StatementsR no_statements ∷ ItemsR (items_of xs) ∷ v) (ahead c.loop-items.rest)) (sym no.1)
+    ∙ c.in_ok-statements.ensures.leads s (ItemsR (items_of c.gathered.new.list.items) ∷ v) d)

@@ -1,11 +1,25 @@
-use Rattle.std.proofs.Common.{◌≡◌, ◌∙◌, ℕ, List, is_ok, ap, sym, subst}
+use Rattle.std.proofs.Common.{◌≡◌, ◌∙◌, ℕ, List, length, take, is_ok, ap, sym, subst}
 use Rattle.std.specs.List.{All}
 use Rattle.plm_syntax.specs.declared.scope.Literal.{Literal}
 use Rattle.plm_syntax.specs.Inner.Names.{names_in}
 use Rattle.plm_syntax.specs.Inner.Scope.{place_in, letters_of, first_named, ArePlaced, AreFirst, IsNumbered}
 use Rattle.plm_syntax.proofs.Located.{placed_so}
-use Rattle.plm_syntax.proofs.Numbers.{numbered_still, numbered_so, numbered_new, none_there, firsts_so}
+use Rattle.plm_syntax.specs.declared.names.Names.{Names}
+use Rattle.plm_syntax.proofs.Numbers.{kept_along, numbered_still, numbered_so, numbered_new, none_there, firsts_so}
 use Rattle.plm_syntax.proofs.scope.Scope.declare.Goals as goal
+
+-- names that were kept where the table of places changed between
+kept_past : (a b c d : Names) → take (length (names_in a)) (names_in b) ≡ names_in a → c ≡ b → take (length (names_in c)) (names_in d) ≡ names_in c → take (length (names_in a)) (names_in d) ≡ names_in a
+kept_past a b c d h same k = kept_along (names_in a) (names_in b) (names_in d) h (subst (λ (n : Names). take (length (names_in n)) (names_in d) ≡ names_in n) same k)
+
+pub returns-clause-names : goal.returns-clause-names
+returns-clause-names c = kept_past c.args.self.now.names c.number.new.self c.enter.new.self.names c.numbers_of.new.names c.number.ensures.kept c.in_ok-enter.ensures.names c.numbers_of.ensures.kept
+
+pub returns-in_err-numbers-clause-names : goal.returns-in_err-numbers-clause-names
+returns-in_err-numbers-clause-names c = kept_past c.args.self.now.names c.number.new.self c.enter.new.self.names c.numbers_of.new.names c.number.ensures.kept c.in_ok-enter.ensures.names c.numbers_of.ensures.kept
+
+pub returns-in_err-push-clause-names : goal.returns-in_err-push-clause-names
+returns-in_err-push-clause-names c = kept_past c.args.self.now.names c.number.new.self c.enter.new.self.names c.numbers_of.new.names c.number.ensures.kept c.in_ok-enter.ensures.names c.numbers_of.ensures.kept
 
 pub invariant_of-self : goal.invariant_of-self
 invariant_of-self c =
