@@ -1,4 +1,5 @@
 pub mod Apart
+pub mod Made
 pub mod Tables
 pub mod MemberRows
 pub mod MemberScalars

@@ -1,6 +1,6 @@
 //! Constant bytes in expressions and values.
 
-ghost use Rattle.std.specs.Prelude.{◌≡◌, ◌++◌, IfOk, OnOk, map};
+ghost use Rattle.std.specs.Prelude.{◌≡◌, ◌++◌, ◌&&◌, IfOk, OnOk, map};
 ghost use Rattle.plm_token.specs.Strings.{string_characters};
 ghost use Rattle.plm_syntax.specs.View.{value_of};
 ghost use Rattle.plm_decl.specs.declared.names.Datum.TheVariants as datum;
@@ -12,6 +12,7 @@ ghost use Rattle.plm_decl.specs.Inner.Expressions.{constants_put};
 use crate::datum::number_datum;
 use crate::layout::ScalarType;
 use crate::names::{Datum, Object};
+use crate::parts::append;
 use crate::resolver::{Resolver, next};
 use crate::scope::Scope;
 use crate::spelling::constants_path;
@@ -19,6 +20,13 @@ use plm_syntax::{Position, Value};
 use plm_token::string_value;
 use std::alloc::AllocError;
 use word86::Number;
+
+/// Whether both hold.
+fn both(first: bool, second: bool) -> bool
+    ensures { result ≡ (first && second) }
+{
+    first && second
+}
 
 impl Resolver {
     /// Puts a value of constant bytes after the others; false where it is no byte and no string.
@@ -63,7 +71,7 @@ impl Resolver {
         let mut are_bytes = true;
         for value in values {
             let is_byte = self.constant_value(value, &mut bytes)?;
-            are_bytes = are_bytes && is_byte;
+            are_bytes = both(are_bytes, is_byte);
         }
         Ok((bytes, are_bytes))
     }
@@ -76,11 +84,14 @@ impl Resolver {
         let path = constants_path(self.alloc, scope.path(), self.constants)?;
         let object = self.objects.len();
         let size = bytes.len() as u64;
-        self.objects.push(Object {
-            path,
-            size,
-            initial: bytes,
-        })?;
+        append(
+            &mut self.objects,
+            Object {
+                path,
+                size,
+                initial: bytes,
+            },
+        )?;
         Ok(object)
     }
 

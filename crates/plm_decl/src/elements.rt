@@ -14,6 +14,7 @@ use crate::attributes::{Traits, has_values, is_placed, traits_with, values};
 use crate::fill::Filling;
 use crate::layout::{Form, ScalarType};
 use crate::names::{Item, Object, Region, ScreenName, Variable};
+use crate::parts::append;
 use crate::resolved::Binding;
 use crate::resolver::Resolver;
 use crate::scope::Scope;
@@ -114,11 +115,15 @@ impl Resolver {
         }
         let object = self.objects.len();
         let path = name_path(self.alloc, scope.path(), name)?;
-        self.objects.push(Object {
-            path,
-            size,
-            initial: Vec::new(self.alloc),
-        })?;
+        let initial = Vec::new(self.alloc);
+        append(
+            &mut self.objects,
+            Object {
+                path,
+                size,
+                initial,
+            },
+        )?;
         Ok(Region::Ram(object, 0))
     }
 
@@ -148,13 +153,16 @@ impl Resolver {
         }
         let path = name_path(self.alloc, scope.path(), name)?;
         let objects_before = self.objects.len();
-        self.screen_names.push(ScreenName {
-            path,
-            size,
-            page,
-            offset,
-            objects_before,
-        })?;
+        append(
+            &mut self.screen_names,
+            ScreenName {
+                path,
+                size,
+                page,
+                offset,
+                objects_before,
+            },
+        )?;
         Ok(())
     }
 
@@ -365,8 +373,7 @@ impl Resolver {
                 match names.first() {
                     Some(first) => {
                         let place = first.name.place;
-                        self.names(scope, place, names, dimension, form, attributes)?;
-                        Ok(())
+                        self.names(scope, place, names, dimension, form, attributes)
                     }
                     None => Ok(()),
                 }

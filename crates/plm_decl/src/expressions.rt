@@ -6,18 +6,20 @@ ghost use Rattle.plm_syntax.specs.View.{name_of};
 ghost use Rattle.plm_syntax.specs.View as tree;
 ghost use Rattle.plm_decl.specs.Inner.Scope.{frames_of};
 ghost use Rattle.plm_decl.specs.Layout.{structure_of};
+ghost use Rattle.plm_decl.specs.Resolver.{Known};
 ghost use Rattle.plm_decl.specs.Inner.Resolver.{known_of};
-ghost use Rattle.plm_decl.specs.Resolved.{ExpressionR};
+ghost use Rattle.plm_decl.specs.Resolved.{ExpressionR, EmbeddedR};
 ghost use Rattle.plm_decl.specs.ResolvedView as view;
 ghost use Rattle.plm_decl.specs.Expressions as spec;
 ghost use Rattle.plm_decl.specs.Inner.Expressions.{chained};
 
 use crate::layout::{Form, Member};
+use crate::parts::{append, boxed, pushed};
 use crate::resolved::{Binding, Expression, Location, Operation, Reference, Selector};
 use crate::resolver::Resolver;
 use crate::scope::Scope;
 use crate::structure::Structure;
-use plm_syntax::Name;
+use plm_syntax::{Name, Position};
 use plm_token::{normal, string_value};
 use std::alloc::AllocError;
 use word86::Number;
@@ -73,7 +75,7 @@ impl Resolver {
             }
             plm_syntax::Expression::Embedded(place, target, value) => {
                 let target = self.reference(target, scope)?;
-                Ok(Expression::Embedded(*place, target, self.boxed_expression(value, scope)?))
+                self.embedded(value, target, *place, scope)
             }
             plm_syntax::Expression::Unary(place, operator, operand) => {
                 Ok(Expression::Unary(*place, *operator, self.boxed_expression(operand, scope)?))
@@ -111,6 +113,27 @@ impl Resolver {
         Ok(Expression::Location(self.location(location, scope)?))
     }
 
+    /// What stands behind the target of an embedded assignment, beside this target.
+    #[cycle(expression)]
+    #[inline(never)]
+    fn embedded(
+        &mut self,
+        value: &plm_syntax::Expression<'_>,
+        target: Reference,
+        place: Position,
+        scope: &Scope<'_>,
+    ) -> Result<Expression, AllocError>
+        ensures { let e = spec.expression (frames_of scope.now) (tree.expression_of value.now) (known_of self.old) in let all : ExpressionR × Known = (EmbeddedR place (view.reference_of target) e.0, e.1) in IfOk result (λ r. (view.expression_of r, known_of self.new) ≡ all) }
+    {
+        match self.boxed_expression(value, scope) {
+            Ok(value) => Ok(Expression::Embedded(place, target, value)),
+            Err(refused) => {
+                drop(target);
+                Err(refused)
+            }
+        }
+    }
+
     #[cycle(expression)]
     #[inline(never)]
     fn boxed_expression(
@@ -120,8 +143,7 @@ impl Resolver {
     ) -> Result<Box<Expression>, AllocError>
         ensures { IfOk result (λ r. (view.expression_of r.value, known_of self.new) ≡ spec.expression (frames_of scope.now) (tree.expression_of e.now) (known_of self.old)) }
     {
-        let expression = self.expression(e, scope)?;
-        Ok(Box::new(self.alloc, expression)?)
+        boxed(self.alloc, self.expression(e, scope))
     }
 
     /// Operators of one precedence, whatever stands to their left.
@@ -137,11 +159,14 @@ impl Resolver {
         let mut resolved = Vec::with_capacity(self.alloc, operations.len())?;
         for operation in operations {
             let operand = self.expression(&operation.operand, scope)?;
-            resolved.push(Operation {
-                place: operation.place,
-                operator: operation.operator,
-                operand,
-            })?;
+            append(
+                &mut resolved,
+                Operation {
+                    place: operation.place,
+                    operator: operation.operator,
+                    operand,
+                },
+            )?;
         }
         Ok(resolved)
     }
@@ -175,7 +200,7 @@ impl Resolver {
     {
         let mut resolved = Vec::with_capacity(self.alloc, subscripts.len())?;
         for subscript in subscripts {
-            resolved.push(self.expression(subscript, scope)?)?;
+            pushed(&mut resolved, self.expression(subscript, scope))?;
         }
         Ok(resolved)
     }

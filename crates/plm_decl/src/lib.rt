@@ -18,6 +18,7 @@ mod members;
 mod modules;
 mod names;
 mod parameters;
+mod parts;
 mod placement;
 mod procedures;
 mod resolved;

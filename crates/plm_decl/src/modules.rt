@@ -22,6 +22,7 @@ use crate::table::Table;
 use plm_syntax::Module;
 use plm_token::normal;
 use std::alloc::{AllocError, Global};
+use std::mem::replace;
 use word86::Fault;
 
 impl Resolver {
@@ -57,9 +58,10 @@ impl Resolver {
         resolver.constants = 0;
         let path = normal(resolver.alloc, tree.name.text)?;
         let mut scope = Scope::outermost(resolver.alloc, path);
-        let statements = Resolver::block(&tree.block, resolver, &mut scope)?;
-        resolver.put_main(!tree.block.statements.is_empty(), statements)?;
-        Ok(())
+        let statements = Resolver::block(&tree.block, resolver, &mut scope);
+        drop(scope);
+        let statements = statements?;
+        resolver.put_main(!tree.block.statements.is_empty(), statements)
     }
 
     /// Keeps the statements of a main module.
@@ -117,7 +119,10 @@ impl Resolver {
     {
         self.join_modules()?;
         match least(&self.whole) {
-            Some(found) => Err(found.fault()),
+            Some(found) => {
+                drop(self);
+                Err(found.fault())
+            }
             None => Ok(self.into_names()),
         }
     }
@@ -131,6 +136,15 @@ impl Resolver {
         Ok(whole)
     }
 
+    /// The faults of declarations and names.
+    fn into_faults(mut self) -> Vec<Found>
+        ensures { result.items ≡ (known_of self).faults }
+    {
+        let faults = replace(&mut self.faults, Vec::new(self.alloc));
+        drop(self);
+        faults
+    }
+
     /// The names, where no fault was met.
     fn answer(self) -> Result<Names, Fault>
         requires within { (known_of self).faults ≡ [] → Within (counts_of (known_of self)) (known_of self) }
@@ -139,7 +153,10 @@ impl Resolver {
         ensures refused { IfErr result (λ fault. IsRefused fault (known_of self)) }
     {
         match least(&self.faults) {
-            Some(found) => Err(found.fault()),
+            Some(found) => {
+                drop(self);
+                Err(found.fault())
+            }
             None => self.joined(),
         }
     }
@@ -178,6 +195,5 @@ pub fn name_faults(alloc: Global, modules: &[Module<'_>]) -> Result<Vec<Found>, 
     if resolver.faults.is_empty() {
         return resolver.whole_faults();
     }
-    let Resolver { faults, .. } = resolver;
-    Ok(faults)
+    Ok(resolver.into_faults())
 }

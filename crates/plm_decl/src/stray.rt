@@ -1,9 +1,11 @@
 //! What stands in an EXTERNAL procedure besides the declarations of its parameters.
 
-ghost use Rattle.std.specs.Prelude.{◌≡◌, map, IfOk};
+ghost use Rattle.std.specs.Prelude.{◌≡◌, map, IfOk, OnOk};
 ghost use Rattle.plm_syntax.specs.View.{name_of, variable_of, element_of, item_of, statement_of, block_of};
 ghost use Rattle.plm_decl.specs.Stray as spec;
+ghost use Rattle.plm_decl.specs.Inner.Parameters.{listed_after};
 ghost use Rattle.plm_decl.specs.Inner.Procedures.{stray_for};
+ghost use Rattle.plm_decl.specs.Inner.Scope.{entries_of};
 
 use crate::names::Item;
 use crate::parameters::Parameters;
@@ -21,15 +23,28 @@ impl<'p, 'a> Parameters<'p, 'a> {
         ensures { IfOk result (λ p. p.names.now ≡ names.now) }
     {
         let mut by_name = Table::new(alloc);
+        match Parameters::list(alloc, names, &mut by_name) {
+            Ok(()) => Ok(Parameters {
+                alloc,
+                names,
+                by_name,
+            }),
+            Err(refused) => {
+                drop(by_name);
+                Err(refused)
+            }
+        }
+    }
+
+    /// Puts these names into a table.
+    fn list(alloc: Global, names: &[Name<'_>], by_name: &mut Table) -> Result<(), AllocError>
+        ensures { OnOk result (entries_of by_name.new ≡ listed_after (entries_of by_name.old) (map name_of names.now)) }
+    {
         for name in names {
             let key = normal(alloc, name.text)?;
             by_name.add(key, Item::Variable(0))?;
         }
-        Ok(Parameters {
-            alloc,
-            names,
-            by_name,
-        })
+        Ok(())
     }
 
     /// Whether one of them has this name.
@@ -146,7 +161,10 @@ fn place_of(statement: &Statement<'_>) -> Option<Position>
 fn first_place(statements: &[Statement<'_>]) -> Option<Position>
     ensures { result ≡ spec.first_statement (map statement_of statements.now) }
 {
-    place_of(statements.first()?)
+    match statements {
+        [first, ..] => place_of(first),
+        [] => None,
+    }
 }
 
 /// What stands first in a block besides the declarations of these parameters.

@@ -1,17 +1,11 @@
-use Rattle.std.proofs.Common.{List, map, sym, ◌∙◌}
-use Rattle.std.proofs.lemmas.List.{at_drop_all}
-use Rattle.plm_syntax.specs.declared.tree.Name.{Name}
+use Rattle.std.proofs.Common.{map, ap, ◌∙◌}
 use Rattle.plm_syntax.specs.View.{name_of}
-use Rattle.plm_decl.specs.Inner.Scope.{entries_of}
+use Rattle.plm_decl.specs.Scope.{Entries}
 use Rattle.plm_decl.specs.Inner.Parameters.{listed_after}
 use Rattle.plm_decl.proofs.ParameterNames.{all_told}
 use Rattle.plm_decl.proofs.parameters.Parameters.new.Goals as goal
 
 pub invariant_of-result : goal.invariant_of-result
 invariant_of-result c =
-    let here = c.loop-name in
     let ns = c.args.names.now in
-    record {
-      told = all_told here.by_name ns
-          (sym (at_drop_all (λ (l : List Name). listed_after (entries_of here.by_name) (map name_of l)) ns here.name-index c.loop-name-test.false) ∙ here.invariant);
-    }
+    record { told = all_told c.list.new.by_name ns (c.in-Ok.ensures ∙ ap (λ (e : Entries). listed_after e (map name_of ns)) c.new-by_name.ensures) }

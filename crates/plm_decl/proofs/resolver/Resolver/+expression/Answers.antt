@@ -1,5 +1,6 @@
 use Rattle.std.proofs.Common.{◌≡◌, ◌+◌, List, ◌∷◌, map, drop, drop-cons, add-one, IfOk, sym, ap, subst, ◌∙◌}
 use Rattle.std.proofs.lemmas.List.{at_drop_all}
+use Rattle.std.proofs.lemmas.Result.{IfOk-at_ok, IfOk-weaker}
 use Rattle.plm_syntax.specs.declared.tree.Operation.{Operation}
 use Rattle.plm_decl.proofs.ListViews.{value_list_from}
 use Rattle.plm_syntax.specs.Tree.{no_values, ExpressionT, ReferenceE, EmbeddedE, LocationT, ExpressionsT, LocationOf}
@@ -8,12 +9,15 @@ use Rattle.plm_decl.proofs.SyntaxRows.{value_row, operation_row}
 use Rattle.plm_decl.specs.Inner.Scope.{frames_of}
 use Rattle.plm_decl.specs.Inner.Resolver.{known_of}
 use Rattle.plm_decl.specs.Lists.{value_list}
+use Rattle.plm_decl.specs.Resolver.{Known}
+use Rattle.plm_decl.specs.declared.resolved.Expression as made_tree
 use Rattle.plm_decl.specs.Resolved.{ExpressionR, BinaryR, ReferenceR, and_expression}
 use Rattle.plm_decl.specs.Resolved as resolved
 use Rattle.plm_decl.specs.ResolvedView as view
 use Rattle.plm_decl.specs.Expressions.{expression, subscripts, location, constant_bytes}
 use Rattle.plm_decl.specs.Inner.Expressions.{chained}
 use Rattle.plm_decl.proofs.Chains.{chained_is}
+use Rattle.plm_decl.proofs.Made.{made_so}
 use Rattle.plm_decl.proofs.ResolvedRows as rows
 use Rattle.plm_decl.proofs.SyntaxLists.{expression_next}
 use Rattle.plm_decl.proofs.TreeViews.{reference_laid, reference_placed}
@@ -47,26 +51,39 @@ subscripts-loop-subscript-preserved t c =
     let k = known_of c.args.self.now in
     let all = c.args.subscripts.now in
     let x = tree.expression_of c.subscript-item.result in
-    let did = c.in_ok-expression.ensures in
     let next = sym (expression_next all here.subscript-index c.subscript-item.result c.loop-subscript-test.true c.subscript-item.is) in
-    let pushed = ap view.expressions_of c.in_ok-push.ensures.items ∙ rows.expression_pushed here.resolved.items c.in_ok-expression.field-0 in
+    made_so _ _ c.expression.result c.in_ok-pushed.ensures c.expression.ensures
+    (λ e kept did.
+    let pushed = ap view.expressions_of kept ∙ rows.expression_pushed here.resolved.items e in
     (λ j. (pushed j, known_of c.expression.new.self))
     ∙ (λ j. (and_expression (view.expressions_of here.resolved.items) (did j).0, (did j).1))
     ∙ (λ j. let done = here.invariant j in let r = expression frames x done.1 in (and_expression done.0 r.0, r.1))
-    ∙ ap (λ (es : ExpressionsT). subscripts frames es k) next
+    ∙ ap (λ (es : ExpressionsT). subscripts frames es k) next)
 
-pub expression-returns-in_ok-boxed_expression-in-Embedded : goal.expression-returns-in_ok-boxed_expression-in-Embedded
-expression-returns-in_ok-boxed_expression-in-Embedded t c =
+pub expression-returns-in_ok-target-in-Embedded : goal.expression-returns-in_ok-target-in-Embedded
+expression-returns-in_ok-target-in-Embedded t c =
     let frames = frames_of c.args.scope.now in
     let k = known_of c.args.self.now in
     let p = c.in-Embedded.place in
     let x = c.in-Embedded.target in
     let made = c.in_ok-target-in-Embedded in
-    let did = c.in_ok-boxed_expression-in-Embedded.ensures in
-    (λ j. (resolved.EmbeddedR p (reference_placed made.target j) (did j).0, (did j).1))
-    ∙ (λ j. let r = made.ensures j in let q = expression frames (tree.expression_of (c.deref-in-Embedded.ensures j)) r.1 in (resolved.EmbeddedR p r.0 q.0, q.1))
+    let all =
+    (λ j. let r = made.ensures j in let q = expression frames (tree.expression_of (c.deref-in-Embedded.ensures j)) r.1 in let both : ExpressionR × Known = (resolved.EmbeddedR p r.0 q.0, q.1) in both)
     ∙ ap (λ (e : ExpressionT). expression frames e k)
-    (sym (ap tree.expression_of c.in-Embedded.is ∙ ap (λ r. EmbeddedE p r (tree.expression_of c.in-Embedded.value.value)) (reference_laid x)))
+    (sym (ap tree.expression_of c.in-Embedded.is ∙ ap (λ r. EmbeddedE p r (tree.expression_of c.in-Embedded.value.value)) (reference_laid x))) in
+    subst (λ (y : ExpressionR × Known). IfOk c.embedded.result (λ e. (view.expression_of e, known_of c.embedded.new.self) ≡ y)) all c.embedded.ensures
+
+pub embedded-returns-in-Ok : goal.embedded-returns-in-Ok
+embedded-returns-in-Ok t c =
+    let did = c.in-Ok.ensures in
+    (λ j. (resolved.EmbeddedR c.args.place (reference_placed c.args.target j) (did j).0, (did j).1))
+
+pub boxed_expression-returns : goal.boxed_expression-returns
+boxed_expression-returns t c =
+    let all = expression (frames_of c.args.scope.now) (tree.expression_of c.args.e.now) (known_of c.args.self.now) in
+    IfOk-weaker c.boxed.result _ _
+    (λ b made. IfOk-at_ok (λ (e : made_tree.Expression). (view.expression_of e, known_of c.expression.new.self) ≡ all) made c.expression.ensures)
+    c.boxed.ensures
 
 pub location-returns-in_ok-object-in-Constants : goal.location-returns-in_ok-object-in-Constants
 location-returns-in_ok-object-in-Constants t c =
@@ -93,7 +110,7 @@ operations-loop-operation-preserved t c =
     let next = drop-cons all i x c.loop-operation-test.true ∙ (λ j. is j ∷ drop (one j) all) in
     λ left.
     let before = view.leaned left here.resolved.items in
-    let pushed = ap (view.leaned left) c.in_ok-push.ensures.items ∙ rows.operation_pushed left here.resolved.items _ in
+    let pushed = ap (view.leaned left) c.in_ok-append.ensures ∙ rows.operation_pushed left here.resolved.items _ in
     (λ j. chained frames (pushed j) (drop (i + 1) all) (known_of c.expression.new.self))
     ∙ (λ j. chained frames (BinaryR x.place x.operator before (did j).0) (drop (i + 1) all) (did j).1)
     ∙ ap (λ (os : List Operation). chained frames before os (known_of here.self)) (sym next)

@@ -1,6 +1,8 @@
-use Rattle.std.proofs.Common.{◌≡◌, ℕ, length, List, ◌∷◌, ◌||◌, None, map, sym, subst, ap, ◌∙◌}
-use Rattle.std.specs.Prelude.{IfOk}
+use Rattle.std.proofs.Common.{◌≡◌, ℕ, length, List, ◌∷◌, ◌||◌, None, map, refl, sym, subst, ap, ◌∙◌}
+use Rattle.std.specs.Prelude.{IfOk, IsOkAnd, Result, Ok}
 use Rattle.std.proofs.lemmas.List.{take_all}
+use Rattle.std.proofs.lemmas.Result.{IfOk-at_ok, IfOk-equal, IfOk-weaker, on_ok_weaker}
+use Rattle.std.specs.Global.{Vec}
 use Rattle.plm_syntax.specs.declared.tree.Basic.{Basic}
 use Rattle.plm_syntax.specs.declared.tree.Bounds.{Bounds}
 use Rattle.plm_syntax.specs.declared.tree.Item.{Item}
@@ -11,6 +13,7 @@ use Rattle.plm_syntax.specs.declared.tree.Statement.{Statement}
 use Rattle.plm_syntax.specs.declared.tree.Basic.TheViews.{out-Block, out-Procedure}
 use Rattle.plm_syntax.specs.Tree.{no_references, AssignS, IfS, WhileS, CaseS, BlockT, ItemT, ItemsT, StatementsT}
 use Rattle.plm_syntax.specs.View as tree
+use Rattle.plm_decl.proofs.Made.{made_so}
 use Rattle.plm_decl.proofs.SyntaxRows.{statement_row}
 use Rattle.plm_decl.specs.Scope.{Frame, frame, path_in, is_external}
 use Rattle.plm_decl.specs.Inner.Scope.{frames_of}
@@ -21,7 +24,8 @@ use Rattle.plm_decl.specs.Inner.Statements.{bounds_of, bounds_for, iterated, wit
 use Rattle.plm_token.specs.Names.{normal}
 use Rattle.plm_decl.specs.Resolver.{Known}
 use Rattle.plm_decl.specs.Inner.Resolver.{known_of}
-use Rattle.plm_decl.specs.Resolved.{StatementR, StatementsR, DoR, WhileR, CaseR, and_statement}
+use Rattle.plm_decl.specs.Resolved.{ExpressionR, StatementR, StatementsR, IfR, DoR, WhileR, CaseR, and_statement}
+use Rattle.plm_decl.specs.declared.resolved.Statement as made_tree
 use Rattle.plm_decl.specs.ResolvedView as view
 use Rattle.plm_decl.specs.Expressions.{expression}
 use Rattle.plm_decl.specs.Statements.{basic, block, statement, statements, with_item, with_items}
@@ -32,6 +36,14 @@ use Rattle.plm_decl.proofs.SyntaxLists.{item_next, statement_next}
 use Rattle.plm_decl.proofs.TreeViews.{block_parts, name_for_parts, header_laid, header_for_parts, procedure_parts}
 use Rattle.plm_decl.proofs.ReadProcedures.{procedure_read_is}
 use Rattle.plm_decl.proofs.resolver.Resolver.+statement.Goals as goal
+
+-- `IfOk-weaker`, where what is known stands before what follows
+ok_then : {T E : Type 0} (P Q : T → Type 0) (r : Result T E) → IfOk r P → ((x : T) → P x → Q x) → IfOk r Q
+ok_then P Q r h f = IfOk-weaker r P Q f h
+
+-- what is so of a value is so of the result that has it
+is_made : {T E : Type 0} (P : T → Type 0) (x : Result T E) (y : T) → x ≡ Ok y → P y → IsOkAnd x P
+is_made {T} {E} P x y e p = subst (λ (z : Result T E). IsOkAnd z P) (sym e) p
 
 pub basic-returns-in-Assign : goal.basic-returns-in-Assign
 basic-returns-in-Assign t c =
@@ -106,61 +118,99 @@ basic-returns-in-ReturnValue t c =
     let all = ap (λ (b : Basic). basic frames label (tree.basic_of b) k) (sym at.is) in
     subst (λ (x : StatementR × Known). IfOk c.return_value.result (λ s. (view.statement_of s, known_of c.return_value.new.self) ≡ x)) all c.return_value.ensures
 
-pub basic-returns-in_ok-bounds-in-Iterate : goal.basic-returns-in_ok-bounds-in-Iterate
-basic-returns-in_ok-bounds-in-Iterate t c =
+pub basic-returns-in-Iterate : goal.basic-returns-in-Iterate
+basic-returns-in-Iterate t c =
     let frames = frames_of c.args.scope.now in
     let k = known_of c.args.resolver.now in
     let label = last_name (tree.names_of c.args.labels.now) in
     let at = c.in-Iterate in
     let bounds = λ (b : Bounds). bounds_for frames (tree.name_of at.index) (tree.expression_of b.first) (tree.expression_of b.last) (tree.step_of b.step) k in
     let read = bounds at.values.value in
-    let did = c.in_ok-bounds-in-Iterate.ensures ∙ ap bounds c.deref-in-Iterate.ensures in
     let all =
-    (λ j. iterated at.place at.index.place (did j).0 (statements frames (tree.statements_of (c.deref-in-Iterate-2.ensures.value j)) (did j).1))
-    ∙ ap (λ (ss : StatementsT). iterated at.place at.index.place read.0 (statements frames ss read.1)) (sym (statement_row at.body))
+    ap (λ (ss : StatementsT). iterated at.place at.index.place read.0 (statements frames ss read.1)) (sym (statement_row at.body))
     ∙ ap (λ (b : Basic). basic frames label (tree.basic_of b) k) (sym at.is) in
-    subst (λ (x : StatementR × Known). IfOk c.iterate.result (λ s. (view.statement_of s, known_of c.iterate.new.self) ≡ x)) all c.iterate.ensures
+    let q = known_of c.iterate_from.new.self in
+    let target = basic frames label (tree.basic_of c.args.basic.now) k in
+    ok_then _ (λ s. (view.statement_of s, q) ≡ target) c.iterate_from.result c.iterate_from.ensures
+    (λ s is. made_so {R = (view.statement_of s, q) ≡ target} _ _ c.bounds-bounds.result is c.bounds-bounds.ensures (λ b so made.
+    let did = made ∙ ap bounds c.deref-in-Iterate.ensures in
+    so ∙ (λ j. iterated at.place at.index.place (did j).0 (statements frames (tree.statements_of (c.deref-in-Iterate-2.ensures.value j)) (did j).1)) ∙ all))
 
-pub basic-returns-in_ok-then-in-IfElse : goal.basic-returns-in_ok-then-in-IfElse
-basic-returns-in_ok-then-in-IfElse t c =
+pub basic-returns-in-IfElse : goal.basic-returns-in-IfElse
+basic-returns-in-IfElse t c =
     let frames = frames_of c.args.scope.now in
     let k = known_of c.args.resolver.now in
     let label = last_name (tree.names_of c.args.labels.now) in
     let at = c.in-IfElse in
-    let test = c.in_ok-test-in-IfElse.ensures in
-    let then = c.in_ok-then-in-IfElse.ensures ∙ (λ j. statement frames (tree.statement_of (c.deref-in-IfElse.ensures j)) (test j).1) in
-    let all =
-    (λ j. with_alternative at.place (test j).0 (then j).0 (statement frames (tree.statement_of (c.deref-in-IfElse-2.ensures j)) (then j).1))
-    ∙ ap (λ (b : Basic). basic frames label (tree.basic_of b) k) (sym at.is) in
-    subst (λ (x : StatementR × Known). IfOk c.alternative.result (λ s. (view.statement_of s, known_of c.alternative.new.self) ≡ x)) all c.alternative.ensures
+    let test = expression frames (tree.expression_of at.test) k in
+    let all = ap (λ (b : Basic). basic frames label (tree.basic_of b) k) (sym at.is) in
+    let q = known_of c.alternative_to.new.self in
+    let target = basic frames label (tree.basic_of c.args.basic.now) k in
+    ok_then _ (λ s. (view.statement_of s, q) ≡ target) c.alternative_to.result c.alternative_to.ensures
+    (λ s is. made_so {R = (view.statement_of s, q) ≡ target} _ _ c.tested-tested.result is c.tested-tested.ensures (λ b so made.
+    let did = made ∙ (λ j. let then = statement frames (tree.statement_of (c.deref-in-IfElse.ensures j)) test.1 in let both : ExpressionR × StatementR × Known = (test.0, then.0, then.1) in both) in
+    so ∙ (λ j. with_alternative at.place (did j).0 (did j).1 (statement frames (tree.statement_of (c.deref-in-IfElse-2.ensures j)) (did j).2)) ∙ all))
+
+pub boxed_statement-returns : goal.boxed_statement-returns
+boxed_statement-returns t c =
+    let all = statement (frames_of c.args.scope.now) (tree.statement_of c.args.statement.now) (known_of c.args.self.now) in
+    ok_then _ (λ b. (view.statement_of b.value, known_of c.statement.new.self) ≡ all) c.boxed.result c.boxed.ensures
+    (λ b made. IfOk-at_ok (λ (s : made_tree.Statement). (view.statement_of s, known_of c.statement.new.self) ≡ all) made c.statement.ensures)
+
+pub tested-returns-in-Ok : goal.tested-returns-in-Ok
+tested-returns-in-Ok t c =
+    let did = c.in_ok-test.ensures in
+    let body = c.in-Ok.ensures ∙ (λ j. statement (frames_of c.args.scope.now) (tree.statement_of c.args.body.now) (did j).1) in
+    (λ j. ((did j).0, (body j).0, (body j).1))
+
+pub conditional-returns : goal.conditional-returns
+conditional-returns t c =
+    let did = c.in_ok-tested.ensures in
+    (λ j. (IfR c.args.place (did j).0 (did j).1, (did j).2))
+
+pub alternative_to-returns : goal.alternative_to-returns
+alternative_to-returns t c =
+    IfOk-weaker c.alternative.result _ _ (λ s did. is_made _ c.args.tested c.in_ok-tested.tested c.in_ok-tested.was did) c.alternative.ensures
+
+pub iterate_from-returns : goal.iterate_from-returns
+iterate_from-returns t c =
+    IfOk-weaker c.iterate.result _ _ (λ s did. is_made _ c.args.bounds c.in_ok-bounds.bounds c.in_ok-bounds.was did) c.iterate.ensures
+
+pub alternative-returns-in-Ok : goal.alternative-returns-in-Ok
+alternative-returns-in-Ok t c =
+    ap (with_alternative c.args.place (view.expression_of c.args.test) (view.statement_of c.args.body.value)) c.in-Ok.ensures
 
 pub do_block-returns : goal.do_block-returns
 do_block-returns t c =
     let frames = frames_of c.args.scope.now in
     let did = c.in_ok-path.ensures in
-    let body = c.in_ok-block in
+    let ss = c.in_ok-statements.statements in
+    let behind = frames_of c.block-statements.new.scope in
+    let q = known_of c.block-statements.new.resolver in
     let inside = c.inside-inside.ensures ∙ (λ j. frame (did j).0 (c.is_external.ensures j) ∷ frames) in
-    (λ j. (DoR c.args.place (rows.statement_row body.field-0 j), known_of c.block.new.resolver))
-    ∙ (λ j. (DoR c.args.place (body.ensures j).0, (body.ensures j).2))
+    let begun = block (frames_of c.inside-inside.result) (tree.block_of c.args.block.now) (known_of c.do_path.new.self) in
+    let body = IfOk-at_ok (λ (r : Vec made_tree.Statement). (view.statements_of r.items, behind, q) ≡ begun) c.in_ok-statements.was c.block-statements.ensures in
+    (λ j. (DoR c.args.place (rows.statement_row ss j), q))
+    ∙ (λ j. (DoR c.args.place (body j).0, (body j).2))
     ∙ (λ j. let r = block (inside j) (tree.block_of c.args.block.now) (did j).1 in (DoR c.args.place r.0, r.2))
 
-pub while_loop-returns : goal.while_loop-returns
-while_loop-returns t c =
+pub while_loop-returns-in-Ok : goal.while_loop-returns-in-Ok
+while_loop-returns-in-Ok t c =
     let frames = frames_of c.args.scope.now in
     let did = c.in_ok-test.ensures in
-    let body = c.in_ok-statements in
+    let body = c.in-Ok in
     let first = expression frames (tree.expression_of c.args.test.now) (known_of c.args.self.now) in
-    (λ j. (WhileR c.args.place (did j).0 (rows.statement_row body.field-0 j), known_of c.statements.new.self))
+    (λ j. (WhileR c.args.place (did j).0 (rows.statement_row body.body j), known_of c.statements.new.self))
     ∙ (λ j. (WhileR c.args.place first.0 (body.ensures j).0, (body.ensures j).1))
     ∙ (λ j. let r = statements frames (tree.statements_of c.args.body.now) (did j).1 in (WhileR c.args.place first.0 r.0, r.1))
 
-pub case-returns : goal.case-returns
-case-returns t c =
+pub case-returns-in-Ok : goal.case-returns-in-Ok
+case-returns-in-Ok t c =
     let frames = frames_of c.args.scope.now in
     let did = c.in_ok-selector.ensures in
-    let body = c.in_ok-statements in
+    let body = c.in-Ok in
     let first = expression frames (tree.expression_of c.args.selector.now) (known_of c.args.self.now) in
-    (λ j. (CaseR c.args.place (did j).0 (rows.statement_row body.field-0 j), known_of c.statements.new.self))
+    (λ j. (CaseR c.args.place (did j).0 (rows.statement_row body.cases j), known_of c.statements.new.self))
     ∙ (λ j. (CaseR c.args.place first.0 (body.ensures j).0, (body.ensures j).1))
     ∙ (λ j. let r = statements frames (tree.statements_of c.args.cases.now) (did j).1 in (CaseR c.args.place first.0 r.0, r.1))
 
@@ -177,13 +227,14 @@ statements-loop-statement-preserved t c =
     let k = known_of c.args.self.now in
     let all = c.args.statements.now in
     let x = tree.statement_of c.statement-item.result in
-    let did = c.in_ok-statement.ensures in
     let next = sym (statement_next all here.statement-index c.statement-item.result c.loop-statement-test.true c.statement-item.is) in
-    let pushed = ap view.statements_of c.in_ok-push.ensures.items ∙ rows.statement_pushed here.resolved.items c.in_ok-statement.field-0 in
+    made_so _ _ c.statement.result c.in_ok-pushed.ensures c.statement.ensures
+    (λ s kept did.
+    let pushed = ap view.statements_of kept ∙ rows.statement_pushed here.resolved.items s in
     (λ j. (pushed j, known_of c.statement.new.self))
     ∙ (λ j. (and_statement (view.statements_of here.resolved.items) (did j).0, (did j).1))
     ∙ (λ j. let done = here.invariant j in let r = statement frames x done.1 in (and_statement done.0 r.0, r.1))
-    ∙ ap (λ (ss : StatementsT). statements frames ss k) next
+    ∙ ap (λ (ss : StatementsT). statements frames ss k) next)
 
 pub items-loop-item-preserved : goal.items-loop-item-preserved
 items-loop-item-preserved t c =
@@ -208,11 +259,15 @@ block-returns t c =
     let frames = frames_of c.args.scope.now in
     let k = known_of c.args.resolver.now in
     let entered = c.in_ok-items.ensures ∙ ap (λ (is : List Item). with_items frames (tree.items_of is) k) c.deref.ensures.value in
-    let did = c.in_ok-statements.ensures in
     let read = c.deref-2.ensures.value in
-    (λ j. ((did j).0, frames_of c.items.new.scope, (did j).1))
+    let behind = frames_of c.items.new.scope in
+    let q = known_of c.statements.new.self in
+    let target = block frames (tree.block_of c.args.block.now) k in
+    ok_then _ (λ ss. (view.statements_of ss.items, behind, q) ≡ target) c.statements.result c.statements.ensures
+    (λ ss did.
+    (λ j. ((did j).0, behind, (did j).1))
     ∙ (λ j. let l = entered j in let r = statements l.0 (tree.statements_of (read j)) l.1 in (r.0, l.0, r.1))
-    ∙ ap (λ (b : BlockT). block frames b k) (sym (block_parts c.args.block.now))
+    ∙ ap (λ (b : BlockT). block frames b k) (sym (block_parts c.args.block.now)))
 
 -- the steps of a procedure, one after another
 in_order : {Names Known Body : Type 0} (into : Names → Names) (read : Names → Known → Body × Names × Known) (finish : ℕ → Names → Body → Known → Known)
@@ -232,6 +287,11 @@ declared_is frames p k =
     (λ j. declared_procedure frames (name_for_parts p j) (header_for (name_after (path_in frames) (normal (name_for_parts p j).text)) p k) k)
     ∙ (λ j. declared_procedure frames n (header_for_parts (name_after (path_in frames) (normal n.text)) p k j) k)
 
+pub body-returns : goal.body-returns
+body-returns t c =
+    let did = c.in_ok-statements.ensures in
+    IfOk-equal c.finish.result _ _ _ c.finish.ensures (λ j. finished c.args.number (did j).1 (map tree.name_of c.args.parameters.now) (did j).0 (did j).2)
+
 pub procedure-returns : goal.procedure-returns
 procedure-returns t c =
     let p = c.args.procedure.now in
@@ -245,17 +305,17 @@ procedure-returns t c =
     let begun = (λ j. ((header j).1, (header j).2)) ∙ declared_is frames p k in
     let external = is_external_linkage o.linkage || is_external frames in
     let outer = frames_of c.header.new.scope in
-    let behind = frames_of c.block.new.scope in
-    let q = known_of c.block.new.resolver in
-    let body = view.statements_of c.in_ok-body.body.items in
-    let finish = c.in_ok-finish.ensures
-    ∙ ap (λ (l : List Name). finished c.in_ok-number.number behind (map tree.name_of l) body q) c.deref.ensures.value
+    let done = block (frames_of c.inside-inside.result) (tree.block_of o.block) (known_of c.header.new.self) in
+    let finish =
+    ap (λ (l : List Name). finished c.in_ok-number.number done.1 (map tree.name_of l) done.0 done.2) c.deref.ensures.value
     ∙ in_order (λ (l : List Frame). frame path external ∷ l) (λ (l : List Frame) (x : Known). block l (tree.block_of o.block) x)
     (λ (i : ℕ) (l : List Frame) (ss : StatementsR) (x : Known). finished i l ns ss x)
     c.in_ok-number.number (length k.procedures) (outer, known_of c.header.new.self) (declared_procedure frames n (header_laid path p k) k)
-    (frames_of c.inside-inside.result) (body, behind, q)
+    (frames_of c.inside-inside.result) done
     (λ j. (header j).0) begun
     (c.inside-inside.ensures ∙ (λ j. frame (c.in_ok-path.ensures j) (c.takes_no_room-is_external.ensures j) ∷ outer))
-    c.in_ok-body.ensures
+    refl
     ∙ procedure_read_is frames p k in
-    (λ j. ((begun j).0, finish j)) ∙ ap (λ (i : ItemT). ((with_item frames i k).0, (with_item frames (tree.procedure_of p) k).1)) (sym (procedure_parts p))
+    on_ok_weaker c.body-read.result
+    (λ (did : known_of c.body-read.new.resolver ≡ finished c.in_ok-number.number done.1 (map tree.name_of c.deref.result.now) done.0 done.2). (λ j. (outer, did j)) ∙ (λ j. ((begun j).0, finish j)) ∙ ap (λ (i : ItemT). ((with_item frames i k).0, (with_item frames (tree.procedure_of p) k).1)) (sym (procedure_parts p)))
+    c.body-read.ensures

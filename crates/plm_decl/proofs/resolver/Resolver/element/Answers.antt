@@ -1,5 +1,6 @@
 use Rattle.std.proofs.Common.{◌≡◌, List, [], ◌∷◌, Some, map, sym, ap, ◌∙◌}
 use Rattle.std.specs.Prelude.{slice_get}
+use Rattle.std.proofs.lemmas.Result.{IfOk-equal}
 use Rattle.plm_syntax.specs.declared.tree.Element.{Element}
 use Rattle.plm_syntax.specs.declared.tree.Variable.{Variable}
 use Rattle.plm_syntax.specs.Tree.{VariableT, DimensionT, TypeT, AttributesT}
@@ -18,14 +19,15 @@ declared_first (w ∷ vs) v d t a frames k e =
     let same : v ≡ w = cc in
     ap (λ (x : Variable). declared_at x.name.place (map variable_of (w ∷ vs)) d t a frames k) same
 
-pub returns-in_ok-names-in-Some : goal.returns-in_ok-names-in-Some
-returns-in_ok-names-in-Some c =
+pub returns-in-Some : goal.returns-in-Some
+returns-in-Some c =
     let frames = frames_of c.args.scope.now in
     let k = known_of c.args.self.now in
     let d = dimension_of c.in-Variable.dimension in
     let t = type_of c.in-Variable.form in
     let a = attributes_of c.in-Variable.attributes in
-    c.in_ok-names-in-Some.ensures
-    ∙ declared_first c.declared_names-names.result.now c.in-Some.first.now d t a frames k c.in-Some.ensures.value
+    let all =
+    declared_first c.declared_names-names.result.now c.in-Some.first.now d t a frames k c.in-Some.ensures.value
     ∙ ap (λ (vs : List VariableT). declared_names vs d t a frames k) c.declared_names-names.ensures
-    ∙ ap (λ (e : Element). element (element_of e) frames k) (sym c.in-Variable.is)
+    ∙ ap (λ (e : Element). element (element_of e) frames k) (sym c.in-Variable.is) in
+    IfOk-equal c.names.result _ _ _ c.names.ensures all
