@@ -1,5 +1,6 @@
 -- What the code says of a construct's parts, after faults that are noted already, makes what it says of the construct.
-use Rattle.std.proofs.Common.{◌≡◌, ℕ, ◌∷◌, ◌++◌, [], List, Option, Some, None, Result, IfOk, append_assoc, refl, subst, sym, ap, ◌∙◌}
+use Rattle.std.proofs.Common.{◌≡◌, ℕ, ◌∷◌, ◌++◌, [], List, Option, Some, None, Result, Ok, IfOk, OnOk, append_assoc, refl, subst, sym, ap, ◌∙◌}
+use Rattle.std.specs.Global.{Box}
 use Rattle.word86.specs.declared.number.Number.TheVariants.{E401}
 use Rattle.plm_syntax.specs.declared.tree.Position.{Position}
 use Rattle.plm_syntax.specs.declared.tree.BinaryOperator.{BinaryOperator}
@@ -9,14 +10,15 @@ use Rattle.plm_decl.specs.declared.layout.ScalarType.TheVariants as scalar
 use Rattle.plm_type.specs.Rest as rest
 use Rattle.plm_type.specs.declared.typer.Typed as declared
 use Rattle.plm_type.specs.declared.references.TypedTarget as declared_target
+use Rattle.plm_type.specs.declared.steps.Step as declared_step
 use Rattle.plm_type.specs.Types as scalars
 use Rattle.plm_type.specs.declared.numbers.Numbers.{Numbers}
 use Rattle.plm_type.specs.Numbers.{both_numbers}
 use Rattle.plm_type.specs.Faults.{fault_unless}
-use Rattle.plm_type.specs.Typer.{Typed, TypedTarget, TypedList, Parts, Noted}
+use Rattle.plm_type.specs.Typer.{Typed, TypedTarget, TypedList, TypedStep, Parts, Noted}
 use Rattle.plm_type.specs.Expressions as spec
 use Rattle.plm_type.specs.Statements.{wanted_among}
-use Rattle.plm_type.specs.Inner.Typer.{said, target_said, noted, noted_after, after, target_after, list_after, parts_after}
+use Rattle.plm_type.specs.Inner.Typer.{said, target_said, step_said, noted, noted_after, after, target_after, list_after, parts_after}
 
 -- what is said of an answer, said in other words
 pub typed_moved : {E : Type 0} (r : Result declared.Typed E) (noted : List Found) {x y : Typed} → x ≡ y → IfOk r (λ e. said e noted ≡ x) → IfOk r (λ e. said e noted ≡ y)
@@ -27,6 +29,31 @@ target_moved r noted is h = subst (λ (z : TypedTarget). IfOk r (λ t. target_sa
 
 pub noted_moved : {A T E : Type 0} (view : A → T) (r : Result A E) (faults : List Found) {x y : Noted T} → x ≡ y → IfOk r (λ a. noted (view a) faults ≡ x) → IfOk r (λ a. noted (view a) faults ≡ y)
 noted_moved view r faults is h = subst (λ z. IfOk r (λ a. noted (view a) faults ≡ z)) is h
+
+pub done_moved : {A E : Type 0} (r : Result A E) (x : List Found) {y z : List Found} → y ≡ z → OnOk r (x ≡ y) → OnOk r (x ≡ z)
+done_moved r x is h = subst (λ (l : List Found). OnOk r (x ≡ l)) is h
+
+-- ---- a result that was an answer
+
+pub typed_at : {E : Type 0} {r : Result declared.Typed E} {e : declared.Typed} (noted : List Found) {x : Typed} → r ≡ Ok e → IfOk r (λ d. said d noted ≡ x) → said e noted ≡ x
+typed_at noted {x = x} is h = subst (λ z. IfOk z (λ d. said d noted ≡ x)) is h
+
+pub noted_at : {A T E : Type 0} (view : A → T) {r : Result A E} {a : A} (faults : List Found) {x : Noted T} → r ≡ Ok a → IfOk r (λ b. noted (view b) faults ≡ x) → noted (view a) faults ≡ x
+noted_at view faults {x = x} is h = subst (λ z. IfOk z (λ b. noted (view b) faults ≡ x)) is h
+
+pub step_at : {E : Type 0} {r : Result declared_step.Step E} {s : declared_step.Step} (noted : List Found) {x : TypedStep} → r ≡ Ok s → IfOk r (λ t. step_said t noted ≡ x) → step_said s noted ≡ x
+step_at noted {x = x} is h = subst (λ z. IfOk z (λ t. step_said t noted ≡ x)) is h
+
+pub boxed_at : {A E : Type 0} {r : Result (Box A) E} {b : Box A} {x : A} → r ≡ Ok b → IfOk r (λ c. c.value ≡ x) → b.value ≡ x
+boxed_at {x = x} is h = subst (λ z. IfOk z (λ c. c.value ≡ x)) is h
+
+pub at_ok : {A E : Type 0} (P : A → Type 0) {r : Result A E} {a : A} → r ≡ Ok a → IfOk r P → P a
+at_ok P is h = subst (λ z. IfOk z P) is h
+
+pub done_at : {E A : Type 0} {r : Result A E} {a : A} {P : Type 0} → r ≡ Ok a → OnOk r P → P
+done_at {P = P} is h = subst (λ z. OnOk z P) is h
+
+-- ---- what is said of a value
 
 abbrev pub typed_with : Typed → List Found → Typed
 typed_with e noted = record { tree = e.tree; scalar = e.scalar; numbers = e.numbers; faults = noted }

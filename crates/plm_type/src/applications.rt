@@ -17,7 +17,7 @@ use crate::numbers::Numbers;
 use crate::program::Expression;
 use crate::references::TypedTarget;
 use crate::shapes::form_type;
-use crate::typer::{Typed, TypedList, Typer};
+use crate::typer::{Typed, TypedList, Typer, paired};
 use crate::types::{are_known, takes};
 use plm_decl::found::Found;
 use plm_decl::{Builtin, Procedure, Reference, ScalarType, Selector, Variable};
@@ -50,6 +50,36 @@ pub fn entry_of(procedure: Option<&Procedure>) -> usize
     match procedure {
         Some(procedure) => procedure.entry,
         None => 0,
+    }
+}
+
+/// The type of a built-in's value: none where its arguments do not fit.
+fn value_type(
+    builtin: Builtin,
+    selector: &Selector,
+    types: &[Option<ScalarType>],
+) -> Option<ScalarType>
+    ensures { result ≡ typing.given_if (typing.builtin_fits builtin (resolved.selector_of selector.now) types.now) (typing.builtin_type builtin types.now) }
+{
+    if builtin_fits(builtin, selector, types) {
+        builtin_type(builtin, types)
+    } else {
+        None
+    }
+}
+
+/// The type of a port as a target: none where its arguments do not fit.
+fn target_type(
+    builtin: Builtin,
+    selector: &Selector,
+    types: &[Option<ScalarType>],
+) -> Option<ScalarType>
+    ensures { result ≡ typing.given_if (typing.builtin_fits builtin (resolved.selector_of selector.now) types.now) (typing.port_type builtin) }
+{
+    if builtin_fits(builtin, selector, types) {
+        port_type(builtin)
+    } else {
+        None
     }
 }
 
@@ -146,6 +176,22 @@ impl Typer<'_> {
         self.note_unless(are_taken, Number::E401, place, faults)
     }
 
+    /// Notes the faults of a call as a value, for which the procedure has to be typed.
+    fn note_called(
+        &self,
+        place: Position,
+        procedure: Option<&Procedure>,
+        selector: &Selector,
+        types: &[Option<ScalarType>],
+        faults: &mut Vec<Found>,
+    ) -> Result<(), AllocError>
+        ensures { OnOk result (faults.new.items ≡ faults.old.items ++ found.called_faults (variables self.now) self.now.module place (option_map (λ p. procedure_of p.now) procedure.entry) (resolved.selector_of selector.now) types.now) }
+    {
+        self.note_call(place, procedure, selector, types, faults)?;
+        let is_typed = returned_type(procedure).is_some();
+        self.note_unless(is_typed, Number::E401, place, faults)
+    }
+
     /// A typed procedure as a value.
     pub fn called(
         &self,
@@ -157,18 +203,13 @@ impl Typer<'_> {
         ensures { IfOk result (λ r. said r faults.new.items ≡ typed.called (variables self.now) self.now.module reference.now.place (option_map (λ p. procedure_of p.now) procedure.entry) (resolved.selector_of reference.now.selector) (list_said arguments faults.old.items)) }
     {
         let selector = &reference.selector;
-        self.note_call(
-            reference.place,
-            procedure,
-            selector,
-            &arguments.types,
-            faults,
-        )?;
-        let is_typed = returned_type(procedure).is_some();
-        self.note_unless(is_typed, Number::E401, reference.place, faults)?;
+        let types = &arguments.types;
+        let noted = self.note_called(reference.place, procedure, selector, types, faults);
+        let scalar = self.called_type(procedure, selector, &arguments.types);
+        let (trees, ()) = paired(arguments.into_trees(), noted)?;
         Ok(Typed {
-            scalar: self.called_type(procedure, selector, &arguments.types),
-            tree: Expression::Call(entry_of(procedure), arguments.trees),
+            scalar,
+            tree: Expression::Call(entry_of(procedure), trees),
             numbers: Numbers::Other,
         })
     }
@@ -202,20 +243,33 @@ impl Typer<'_> {
         ensures { IfOk result (λ r. said r faults.new.items ≡ typed.operated self.now.module reference.now.place builtin (resolved.selector_of reference.now.selector) (list_said arguments faults.old.items)) }
     {
         let selector = &reference.selector;
-        self.note_builtin(reference.place, builtin, selector, &arguments.types, faults)?;
-        let scalar = if builtin_fits(builtin, selector, &arguments.types) {
-            builtin_type(builtin, &arguments.types)
-        } else {
-            None
-        };
+        let types = &arguments.types;
+        let noted = self.note_builtin(reference.place, builtin, selector, types, faults);
+        let scalar = value_type(builtin, selector, &arguments.types);
         let width = first_width(&arguments.types);
         let line = self.line(reference.place);
-        let tree = builtin_value(self.alloc, line, builtin, width, arguments.trees)?;
+        let (trees, ()) = paired(arguments.into_trees(), noted)?;
+        let tree = builtin_value(self.alloc, line, builtin, width, trees)?;
         Ok(Typed {
             tree,
             scalar,
             numbers: Numbers::Other,
         })
+    }
+
+    /// Notes the faults of a built-in as a target.
+    fn note_port(
+        &self,
+        place: Position,
+        builtin: Builtin,
+        selector: &Selector,
+        types: &[Option<ScalarType>],
+        faults: &mut Vec<Found>,
+    ) -> Result<(), AllocError>
+        ensures { OnOk result (faults.new.items ≡ faults.old.items ++ found.port_faults self.now.module place builtin (resolved.selector_of selector.now) types.now) }
+    {
+        self.note_unless(is_target(builtin), Number::E401, place, faults)?;
+        self.note_builtin(place, builtin, selector, types, faults)
     }
 
     /// OUTPUT or OUTWORD as a target; another built-in is none.
@@ -229,15 +283,12 @@ impl Typer<'_> {
         ensures { IfOk result (λ r. target_said r faults.new.items ≡ typed.port self.now.module reference.now.place builtin (resolved.selector_of reference.now.selector) (list_said arguments faults.old.items)) }
     {
         let selector = &reference.selector;
-        self.note_unless(is_target(builtin), Number::E401, reference.place, faults)?;
-        self.note_builtin(reference.place, builtin, selector, &arguments.types, faults)?;
-        let scalar = if builtin_fits(builtin, selector, &arguments.types) {
-            port_type(builtin)
-        } else {
-            None
-        };
+        let types = &arguments.types;
+        let noted = self.note_port(reference.place, builtin, selector, types, faults);
+        let scalar = target_type(builtin, selector, &arguments.types);
+        let (trees, ()) = paired(arguments.into_trees(), noted)?;
         Ok(TypedTarget {
-            tree: to_port(builtin, arguments.trees),
+            tree: to_port(builtin, trees),
             scalar,
         })
     }

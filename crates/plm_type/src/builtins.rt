@@ -10,7 +10,7 @@ ghost use Rattle.plm_type.specs.Inner.Builtins.{the_only};
 ghost use Rattle.plm_type.specs.View as view;
 
 use crate::program::{Expression, Line, Operation, Target};
-use crate::typer::alone;
+use crate::typer::{alone, paired};
 use crate::types::{are_known, has_integer, may_be_integers, may_be_numbers, width_of};
 use plm_decl::{Builtin, ScalarType, Selector};
 use std::alloc::{AllocError, Global};
@@ -276,7 +276,7 @@ pub fn operation(
         others.push(operation)?;
         return Ok(Expression::Chain(first, others));
     }
-    let others = alone(alloc, operation)?;
+    let (left, others) = paired(left, alone(alloc, operation))?;
     Ok(Expression::Chain(Box::new(alloc, left)?, others))
 }
 
@@ -292,8 +292,8 @@ fn shifted(
     if trees.len() != 2 {
         return Ok(Expression::Constant(0));
     }
-    match (trees.pop(), trees.pop()) {
-        (Some(count), Some(shifted)) => operation(
+    match trees.pop().zip(trees.pop()) {
+        Some((count, shifted)) => operation(
             alloc,
             shifted,
             Operation {
@@ -303,7 +303,7 @@ fn shifted(
                 operand: count,
             },
         ),
-        (Some(_), None) | (None, Some(_)) | (None, None) => Ok(Expression::Constant(0)),
+        None => Ok(Expression::Constant(0)),
     }
 }
 

@@ -1,6 +1,6 @@
 //! `check`: from names to a typed program, or to the least of their faults.
 
-ghost use Rattle.std.specs.Prelude.{◌≡◌, ℕ, ◌++◌, List, IfOk, IfErr, length};
+ghost use Rattle.std.specs.Prelude.{◌≡◌, ℕ, ◌<◌, ◌++◌, [], List, Some, slice_get, IfOk, OnOk, IfErr, length};
 ghost use Rattle.plm_decl.specs.declared.found.Found.{Found as FoundR};
 ghost use Rattle.plm_type.specs.Calls.{graph_of, IsRecursive};
 ghost use Rattle.plm_type.specs.Order.{IsOrder};
@@ -81,6 +81,42 @@ fn typed_names(alloc: Global, names: &Names) -> Result<Typed, AllocError>
     })
 }
 
+/// What a program is besides its names.
+#[derive(Drop)]
+struct ProgramParts {
+    main: Vec<Box<Statement>>,
+    procedures: Vec<Procedure>,
+    order: Vec<usize>,
+    handler_numbers: Vec<Option<usize>>,
+}
+
+/// What the program that these names declare is besides them, or the least of their faults.
+fn program_parts(alloc: Global, names: &Names) -> Result<ProgramParts, Fault>
+    ensures main { IfOk result (λ parts. statements_of parts.main.items ≡ programs.main_tree names.now) }
+    ensures procedures { IfOk result (λ parts. procedures_of parts.procedures.items ≡ programs.procedures_of names.now) }
+    ensures handlers { IfOk result (λ parts. (v : ℕ) → v < 256 → slice_get parts.handler_numbers.items v ≡ Some (programs.handler_number names.now v)) }
+    ensures faults { OnOk result (programs.faults names.now ≡ []) }
+    ensures interrupts { OnOk result (AreInterruptFaults names.now []) }
+    ensures recursion { OnOk result ((p : ℕ) → ¬ IsRecursive (programs.procedures_of names.now) p) }
+    ensures order { IfOk result (λ parts. IsOrder parts.order.items (graph_of (programs.procedures_of names.now))) }
+    ensures refused { IfErr result (λ fault. spec.IsRefusal fault names.now) }
+{
+    let typed = typed_names(alloc, names)?;
+    if let Some(found) = least(&typed.faults) {
+        return Err(found.fault());
+    }
+    let handler_numbers = handler_numbers(alloc, names)?;
+    match order_of(alloc, names, &typed.procedures)? {
+        Ok(order) => Ok(ProgramParts {
+            main: typed.main,
+            procedures: typed.procedures,
+            order,
+            handler_numbers,
+        }),
+        Err(found) => Err(found.fault()),
+    }
+}
+
 /// The program that these names declare, with the types of all expressions; or the least fault by module, token and
 /// number: E401 to E403, E405 and E406, and E404, of the whole program, after the others. Want of memory is answered only where a
 /// growth was refused.
@@ -88,20 +124,18 @@ pub fn check(alloc: Global, names: Names) -> Result<Program, Fault>
     ensures typed { IfOk result (λ program. AreTyped program names) }
     ensures refused { IfErr result (λ fault. spec.IsRefusal fault names) }
 {
-    let typed = typed_names(alloc, &names)?;
-    if let Some(found) = least(&typed.faults) {
-        return Err(found.fault());
-    }
-    let handler_numbers = handler_numbers(alloc, &names)?;
-    match order_of(alloc, &names, &typed.procedures)? {
-        Ok(order) => Ok(Program {
+    match program_parts(alloc, &names) {
+        Ok(parts) => Ok(Program {
             names,
-            main: typed.main,
-            procedures: typed.procedures,
-            order,
-            handler_numbers,
+            main: parts.main,
+            procedures: parts.procedures,
+            order: parts.order,
+            handler_numbers: parts.handler_numbers,
         }),
-        Err(found) => Err(found.fault()),
+        Err(fault) => {
+            drop(names);
+            Err(fault)
+        }
     }
 }
 

@@ -21,7 +21,7 @@ use crate::builtins::{
 use crate::numbers::Numbers;
 use crate::program::{Anchor, Expression, Operation, Reference, Target};
 use crate::references::{Parts, TypedTarget, location_type};
-use crate::typer::{Typed, TypedList, Typer};
+use crate::typer::{Typed, TypedList, Typer, paired};
 use crate::types::{
     binary_type, is_bitwise, number_type, operands_fit, operation_on, takes, text_type, unary_fits,
     unary_operation, unary_type, width_of,
@@ -72,9 +72,9 @@ fn nothing() -> Typed
 fn assigned(alloc: Global, target: Target, value: Expression) -> Result<Expression, AllocError>
     ensures { IfOk result (λ r. view.expression_of r ≡ Embedded (view.target_of target) (view.expression_of value)) }
 {
-    let target = Box::new(alloc, target)?;
-    let value = Box::new(alloc, value)?;
-    Ok(Expression::Embedded(target, value))
+    let (value, target) = paired(value, Box::new(alloc, target))?;
+    let boxed = Box::new(alloc, value)?;
+    Ok(Expression::Embedded(target, boxed))
 }
 
 impl Typer<'_> {
@@ -123,7 +123,8 @@ impl Typer<'_> {
     ) -> Result<Typed, AllocError>
         ensures { IfOk result (λ r. said r faults.new.items ≡ spec.embedded self.now.module place (target_said target faults.old.items) (said value [])) }
     {
-        let value = self.wanted(target.scalar, value, faults)?;
+        let scalar = target.scalar;
+        let (target, value) = paired(target, self.wanted(scalar, value, faults))?;
         self.assigned(place, target, value, faults)
     }
 
@@ -138,9 +139,10 @@ impl Typer<'_> {
         ensures { IfOk result (λ r. said r faults.new.items ≡ spec.assigned self.now.module place (target_said target faults.old.items) (said value [])) }
     {
         let is_taken = takes(target.scalar, value.scalar);
-        self.note_unless(is_taken, Number::E401, place, faults)?;
+        let trees = (target.tree, value.tree);
+        let (into, of) = self.judged(trees, is_taken, Number::E401, place, faults)?;
         let has_value = target.scalar.is_some() && is_taken;
-        let tree = assigned(self.alloc, target.tree, value.tree)?;
+        let tree = assigned(self.alloc, into, of)?;
         let typed = Typed {
             tree,
             scalar: value.scalar,
@@ -160,11 +162,11 @@ impl Typer<'_> {
         ensures { IfOk result (λ r. said r faults.new.items ≡ spec.unary self.now.module place operator (said operand faults.old.items)) }
     {
         let is_taken = unary_fits(operator, operand.scalar);
-        self.note_unless(is_taken, Number::E401, place, faults)?;
+        let tree = self.judged(operand.tree, is_taken, Number::E401, place, faults)?;
         let operation = unary_operation(operator);
         let width = width_of(operand.scalar);
         Ok(Typed {
-            tree: applied(self.alloc, operation, width, operand.tree)?,
+            tree: applied(self.alloc, operation, width, tree)?,
             scalar: unary_type(operator, operand.scalar),
             numbers: operand.numbers.signed_by(operator),
         })
@@ -197,16 +199,17 @@ impl Typer<'_> {
         ensures { IfOk result (λ r. said r faults.new.items ≡ spec.operated_on self.now.module place operator first numbers (said left faults.old.items) (said right [])) }
     {
         let fit = operands_fit(operator, left.scalar, right.scalar);
-        self.note_unless(fit, Number::E401, first, faults)?;
+        let trees = (left.tree, right.tree);
+        let (before, operand) = self.judged(trees, fit, Number::E401, first, faults)?;
         let scalar = binary_type(operator, left.scalar, right.scalar);
         let tree = operation(
             self.alloc,
-            left.tree,
+            before,
             Operation {
                 line: self.line(place),
                 operation: operation_on(left.scalar, operator),
                 width: width_of(scalar),
-                operand: right.tree,
+                operand,
             },
         )?;
         Ok(Typed {
@@ -230,8 +233,9 @@ impl Typer<'_> {
     {
         let numbers = left.numbers.with_operator(operator, right.numbers);
         let left_type = left.scalar;
-        let x = self.beside(operator, right.scalar, left, faults)?;
-        let y = self.beside(operator, left_type, right, faults)?;
+        let right_type = right.scalar;
+        let (right, x) = paired(right, self.beside(operator, right_type, left, faults))?;
+        let (x, y) = paired(x, self.beside(operator, left_type, right, faults))?;
         self.operated_on(place, operator, first, numbers, x, y, faults)
     }
 
@@ -297,8 +301,8 @@ impl Typer<'_> {
                 Ok(typed.parenthesised())
             }
             plm_decl::Expression::Embedded(place, target, value) => {
-                let target = self.target(target, faults)?;
-                let value = self.expression(value, faults)?;
+                let stored = self.target(target, faults)?;
+                let (target, value) = paired(stored, self.expression(value, faults))?;
                 self.embedded(*place, target, value, faults)
             }
             plm_decl::Expression::Unary(place, operator, operand) => {
@@ -325,12 +329,12 @@ impl Typer<'_> {
     {
         let mut typed = left;
         for operation in operations {
-            let right = self.expression(&operation.operand, faults)?;
+            let (so_far, right) = paired(typed, self.expression(&operation.operand, faults))?;
             typed = self.binary(
                 operation.place,
                 operation.operator,
                 first,
-                typed,
+                so_far,
                 right,
                 faults,
             )?;
@@ -520,7 +524,8 @@ impl Typer<'_> {
             [] => self.miscounted(place, faults),
             [argument] => self.argument(place, builtin, argument, faults),
             [first, _, ..] => {
-                self.argument(place, builtin, first, faults)?;
+                let judged = self.argument(place, builtin, first, faults)?;
+                drop(judged);
                 self.miscounted(place, faults)
             }
         }

@@ -189,6 +189,23 @@ fn called_anywhere(
     Ok(marks)
 }
 
+/// Whom main's text calls.
+fn called_by_main(alloc: Global, names: &Names) -> Result<Vec<usize>, AllocError>
+    ensures { IfOk result (λ numbers. numbers.items ≡ spec.main_calls names.now) }
+{
+    let effects = effects_of(alloc, &names.main.statements)?;
+    called(alloc, &names.procedures, &effects)
+}
+
+/// Which procedures the texts of a program call.
+fn called_by_texts(alloc: Global, names: &Names) -> Result<Vec<bool>, AllocError>
+    ensures { IfOk result (λ marks. (p : ℕ) → p < length names.now.procedures.items → IsMarked marks.items p ↔ spec.IsCalled names.now p) }
+{
+    let graph = text_graph(alloc, &names.procedures)?;
+    let main = called_by_main(alloc, names)?;
+    called_anywhere(alloc, &graph, &main)
+}
+
 /// Whether what is for an interrupt is called, typed or has parameters.
 fn is_misused(procedure: &Procedure, is_called: bool) -> bool
     ensures { IsTrue result ↔ ((spec.has_interface (Some (procedure_of procedure.now)) ≡ true) ⊎ ((spec.is_for_interrupt (Some (procedure_of procedure.now)) ≡ true) × IsTrue is_called)) }
@@ -201,10 +218,7 @@ fn is_misused(procedure: &Procedure, is_called: bool) -> bool
 fn misused(alloc: Global, names: &Names) -> Result<Vec<bool>, AllocError>
     ensures { IfOk result (λ marks. (p : ℕ) → IsMarked marks.items p ↔ spec.IsMisused names.now p) }
 {
-    let graph = text_graph(alloc, &names.procedures)?;
-    let effects = effects_of(alloc, &names.main.statements)?;
-    let main = called(alloc, &names.procedures, &effects)?;
-    let are_called = called_anywhere(alloc, &graph, &main)?;
+    let are_called = called_by_texts(alloc, names)?;
     let mut marks = Vec::new(alloc);
     for (number, procedure) in names.procedures.iter().enumerate() {
         marks.push(is_misused(procedure, is_marked(&are_called, number)))?;

@@ -199,8 +199,10 @@ impl Typer<'_> {
     ) -> Result<(), AllocError>
         ensures { OnOk result (faults.new.items ≡ faults.old.items ++ (location (variables self.now) (procedures self.now) (sizes self.now) declared.now.module (resolved.location_of declared.now.location)).faults) }
     {
-        self.of_module(declared.module)
+        let typed = self
+            .of_module(declared.module)
             .location(&declared.location, faults)?;
+        drop(typed);
         Ok(())
     }
 

@@ -335,6 +335,8 @@ impl Typer<'_> {
             .trees
             .len()
             .saturating_add(parts.member.trees.len());
+        let outer = parts.subscripts.into_trees();
+        let inner = parts.member.into_trees();
         let mut subscripts = Vec::with_capacity(self.alloc, count)?;
         let line = self.line(place);
         let Some(variable) = variable else {
@@ -345,12 +347,8 @@ impl Typer<'_> {
                 subscripts,
             });
         };
-        let Parts {
-            subscripts: outer,
-            member: inner,
-        } = parts;
-        strided(variable.stride, outer.into_trees(), &mut subscripts)?;
-        strided(member_stride(selector), inner.into_trees(), &mut subscripts)?;
+        strided(variable.stride, outer, &mut subscripts)?;
+        strided(member_stride(selector), inner, &mut subscripts)?;
         Ok(Reference {
             line,
             anchor: anchor(&self.names.variables, &variable),
@@ -370,12 +368,8 @@ impl Typer<'_> {
         ensures { IfOk result (λ r. said r faults.new.items ≡ typed.read (variables self.now) self.now.module reference.now.place variable (resolved.selector_of reference.now.selector) (parts_said parts faults.old.items)) }
     {
         let selector = &reference.selector;
-        self.note_unless(
-            may_be_used(false, variable, selector, &parts),
-            Number::E401,
-            reference.place,
-            faults,
-        )?;
+        let fits = may_be_used(false, variable, selector, &parts);
+        let parts = self.judged(parts, fits, Number::E401, reference.place, faults)?;
         let scalar = use_type(variable, selector, &parts);
         let place = self.refer(reference.place, variable, selector, parts)?;
         Ok(Typed {
@@ -396,18 +390,10 @@ impl Typer<'_> {
         ensures { IfOk result (λ r. target_said r faults.new.items ≡ typed.stored (variables self.now) self.now.module reference.now.place variable (resolved.selector_of reference.now.selector) (parts_said parts faults.old.items)) }
     {
         let selector = &reference.selector;
-        self.note_unless(
-            may_be_used(false, variable, selector, &parts),
-            Number::E401,
-            reference.place,
-            faults,
-        )?;
-        self.note_unless(
-            may_be_assigned(variable),
-            Number::E403,
-            reference.place,
-            faults,
-        )?;
+        let fits = may_be_used(false, variable, selector, &parts);
+        let parts = self.judged(parts, fits, Number::E401, reference.place, faults)?;
+        let assignable = may_be_assigned(variable);
+        let parts = self.judged(parts, assignable, Number::E403, reference.place, faults)?;
         let kept = use_type(variable, selector, &parts);
         let place = self.refer(reference.place, variable, selector, parts)?;
         Ok(TypedTarget {
@@ -429,13 +415,10 @@ impl Typer<'_> {
         ensures { IfOk result (λ r. said r faults.new.items ≡ typed.located (variables self.now) self.now.module place form reference.now.place variable (resolved.selector_of reference.now.selector) (parts_said parts faults.old.items)) }
     {
         let selector = &reference.selector;
-        self.note_unless(may_be_located(variable), Number::E401, place, faults)?;
-        self.note_unless(
-            may_be_used(true, variable, selector, &parts),
-            Number::E401,
-            reference.place,
-            faults,
-        )?;
+        let locatable = may_be_located(variable);
+        let parts = self.judged(parts, locatable, Number::E401, place, faults)?;
+        let fits = may_be_used(true, variable, selector, &parts);
+        let parts = self.judged(parts, fits, Number::E401, reference.place, faults)?;
         let scalar = located_type(form, variable, selector, &parts);
         let reference = self.refer(reference.place, variable, selector, parts)?;
         Ok(Typed {

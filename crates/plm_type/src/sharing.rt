@@ -33,6 +33,7 @@ fn reached_from_roots(
     let mut called = Vec::new(alloc);
     add_statements(program.main(), &mut called)?;
     roots.push(reached(alloc, graph, &called)?)?;
+    drop(called);
     for (number, procedure) in program.names().procedures.iter().enumerate() {
         if serves_interrupt(procedure) {
             roots.push(reached(alloc, graph, &[number])?)?;

@@ -3,7 +3,8 @@
 ghost use Rattle.std.specs.Prelude.{◌≡◌, ◌∷◌, [], ◌++◌, IfOk, OnOk, map};
 ghost use Rattle.plm_decl.specs.Resolved.{references, no_references};
 ghost use Rattle.plm_decl.specs.ResolvedView as resolved;
-ghost use Rattle.plm_type.specs.Inner.Typer.{one, variables, noted, noted_after, targets_said, targets_after, step_said, number_by, count_by, bound_by, targets_by, call_by, index_by, assignment_by, return_by, range_of, range_by, condition_of, condition_by, statement_by, statements_by};
+ghost use Rattle.plm_type.specs.Inner.Typer.{one, variables, noted, noted_after, said, after, typed_by, targets_said, targets_after, step_said, number_by, count_by, bound_by, targets_by, call_by, index_by, assignment_by, return_by, range_of, range_by, condition_of, condition_by, statement_by, statements_by};
+ghost use Rattle.plm_type.specs.Expressions.{wanted};
 ghost use Rattle.plm_type.specs.Rest as rest;
 ghost use Rattle.plm_type.specs.Statements as spec;
 ghost use Rattle.plm_type.specs.View as view;
@@ -14,7 +15,7 @@ use crate::program::{Expression, Loop, Scalar, Statement, Target};
 use crate::references::{TypedTarget, may_be_assigned};
 use crate::shapes::{form_type, has_room, is_based, scalar, scalar_size};
 use crate::steps::Step;
-use crate::typer::{Typer, alone};
+use crate::typer::{Typed, Typer, alone, paired};
 use crate::types::{
     has_integer, is_integer, may_be_integer, may_be_integers, may_be_number, may_be_numbers,
     may_be_pointer, may_be_pointers, may_count, takes, width_of,
@@ -114,8 +115,8 @@ impl TypedTargets {
         ensures trees { OnOk result (self.new.trees.items ≡ self.old.trees.items ++ target.tree ∷ []) }
         ensures types { OnOk result (self.new.types.items ≡ self.old.types.items ++ target.scalar ∷ []) }
     {
-        self.types.push(target.scalar)?;
         self.trees.push(target.tree)?;
+        self.types.push(target.scalar)?;
         Ok(())
     }
 }
@@ -230,8 +231,9 @@ impl Typer<'_> {
         ensures { IfOk result (λ r. noted (view.expression_of r) faults.new.items ≡ noted_after faults.old.items (number_by self.now place (resolved.expression_of e.now))) }
     {
         let typed = self.expression(e, faults)?;
-        self.note_unless(may_be_number(typed.scalar), Number::E401, place, faults)?;
-        Ok(typed.tree)
+        let is_number = may_be_number(typed.scalar);
+        let tree = self.judged(typed.tree, is_number, Number::E401, place, faults)?;
+        Ok(tree)
     }
 
     /// The value of DO CASE.
@@ -244,8 +246,22 @@ impl Typer<'_> {
         ensures { IfOk result (λ r. noted (view.expression_of r) faults.new.items ≡ noted_after faults.old.items (count_by self.now place (resolved.expression_of e.now))) }
     {
         let typed = self.expression(e, faults)?;
-        self.note_unless(may_count(typed.scalar), Number::E401, place, faults)?;
-        Ok(typed.tree)
+        let counts = may_count(typed.scalar);
+        let tree = self.judged(typed.tree, counts, Number::E401, place, faults)?;
+        Ok(tree)
+    }
+
+    /// An expression where a value of this type is wanted.
+    fn value_for(
+        &self,
+        scalar: Option<ScalarType>,
+        e: &plm_decl::Expression,
+        faults: &mut Vec<Found>,
+    ) -> Result<Typed, AllocError>
+        ensures { IfOk result (λ r. said r faults.new.items ≡ after faults.old.items (wanted self.now.module scalar (typed_by self.now (resolved.expression_of e.now)))) }
+    {
+        let typed = self.expression(e, faults)?;
+        self.wanted(scalar, typed, faults)
     }
 
     /// The start or the bound of a DO whose index has this type.
@@ -258,11 +274,10 @@ impl Typer<'_> {
     ) -> Result<Expression, AllocError>
         ensures { IfOk result (λ r. noted (view.expression_of r) faults.new.items ≡ noted_after faults.old.items (bound_by self.now scalar place (resolved.expression_of e.now))) }
     {
-        let typed = self.expression(e, faults)?;
-        let value = self.wanted(scalar, typed, faults)?;
+        let value = self.value_for(scalar, e, faults)?;
         let is_taken = may_bound(scalar, value.scalar);
-        self.note_unless(is_taken, Number::E401, place, faults)?;
-        Ok(value.tree)
+        let tree = self.judged(value.tree, is_taken, Number::E401, place, faults)?;
+        Ok(tree)
     }
 
     fn targets(
@@ -293,12 +308,13 @@ impl Typer<'_> {
     ) -> Result<Statement, AllocError>
         ensures { IfOk result (λ r. noted (view.statement_of r) faults.new.items ≡ noted_after faults.old.items (assignment_by self.now (references (resolved.reference_of reference.now) no_references) (resolved.expression_of e.now))) }
     {
-        let target = self.target(reference, faults)?;
-        let typed = self.expression(e, faults)?;
-        let value = self.wanted(target.scalar, typed, faults)?;
-        let is_taken = all_take(&[target.scalar], value.scalar);
-        self.note_unless(is_taken, Number::E401, reference.place, faults)?;
-        Ok(Statement::Assign(target.tree, Vec::new(self.alloc), value.tree))
+        let stored = self.target(reference, faults)?;
+        let scalar = stored.scalar;
+        let (target, value) = paired(stored, self.value_for(scalar, e, faults))?;
+        let is_taken = all_take(&[scalar], value.scalar);
+        let statement = Statement::Assign(target.tree, Vec::new(self.alloc), value.tree);
+        let assigned = self.judged(statement, is_taken, Number::E401, reference.place, faults)?;
+        Ok(assigned)
     }
 
     #[inline(never)]
@@ -327,11 +343,12 @@ impl Typer<'_> {
         ensures { IfOk result (λ r. noted (view.statement_of r) faults.new.items ≡ noted_after faults.old.items (assignment_by self.now (resolved.references_of references.now) (resolved.expression_of e.now))) }
     {
         let targets = self.targets(references, faults)?;
-        let typed = self.expression(e, faults)?;
-        let value = self.wanted(wanted_among(&targets.types), typed, faults)?;
+        let value = self.value_for(wanted_among(&targets.types), e, faults)?;
         let are_taken = all_take(&targets.types, value.scalar);
-        self.note_unless(are_taken, Number::E401, first_target(references, e), faults)?;
-        Ok(assignment(targets.trees, value.tree))
+        let place = first_target(references, e);
+        let statement = assignment(targets.trees, value.tree);
+        let assigned = self.judged(statement, are_taken, Number::E401, place, faults)?;
+        Ok(assigned)
     }
 
     /// CALL of a procedure.
@@ -348,14 +365,10 @@ impl Typer<'_> {
                 let procedure = self.procedure(number);
                 let arguments = self.passed(&reference.subscripts, procedure, faults)?;
                 let selector = &reference.selector;
-                self.note_call(
-                    reference.place,
-                    procedure,
-                    selector,
-                    &arguments.types,
-                    faults,
-                )?;
-                Ok(Expression::Call(entry_of(procedure), arguments.trees))
+                let types = &arguments.types;
+                let noted = self.note_call(reference.place, procedure, selector, types, faults);
+                let (trees, ()) = paired(arguments.into_trees(), noted)?;
+                Ok(Expression::Call(entry_of(procedure), trees))
             }
             Binding::Variable(_) | Binding::Builtin(_) | Binding::Nothing => {
                 self.note_unless(false, Number::E401, place, faults)?;
@@ -373,11 +386,10 @@ impl Typer<'_> {
     ) -> Result<Expression, AllocError>
         ensures { IfOk result (λ r. noted (view.expression_of r) faults.new.items ≡ noted_after faults.old.items (return_by self.now around place (resolved.expression_of e.now))) }
     {
-        let typed = self.expression(e, faults)?;
-        let value = self.wanted(around.wanted(), typed, faults)?;
+        let value = self.value_for(around.wanted(), e, faults)?;
         let is_taken = around.may_return_value(value.scalar);
-        self.note_unless(is_taken, Number::E401, place, faults)?;
-        Ok(value.tree)
+        let tree = self.judged(value.tree, is_taken, Number::E401, place, faults)?;
+        Ok(tree)
     }
 
     /// The index of a DO.
@@ -409,9 +421,9 @@ impl Typer<'_> {
     {
         let scalar = variable_type(self.variable_meant(bounds.binding));
         let index = self.index(place, name, bounds.binding, faults)?;
-        let from = self.bound_in(scalar, place, &bounds.from, faults)?;
-        let bound = self.bound_in(scalar, place, &bounds.to, faults)?;
-        let step = self.step(scalar, place, &bounds.step, faults)?;
+        let first = self.bound_in(scalar, place, &bounds.from, faults)?;
+        let ends = paired(first, self.bound_in(scalar, place, &bounds.to, faults))?;
+        let ((from, bound), step) = paired(ends, self.step(scalar, place, &bounds.step, faults))?;
         Ok(Range {
             index,
             from,
@@ -515,8 +527,8 @@ impl Typer<'_> {
     ) -> Result<Condition, AllocError>
         ensures { IfOk result (λ r. noted (condition_of r) faults.new.items ≡ noted_after faults.old.items (condition_by self.now around place (resolved.expression_of test.now) (resolved.statement_of then.now))) }
     {
-        let test = self.number_in(place, test, faults)?;
-        let then = self.arm(around, then, faults)?;
+        let asked = self.number_in(place, test, faults)?;
+        let (test, then) = paired(asked, self.arm(around, then, faults))?;
         Ok(Condition { test, then })
     }
 
@@ -532,7 +544,7 @@ impl Typer<'_> {
     ) -> Result<Statement, AllocError>
         ensures { IfOk result (λ r. noted (view.statement_of r) faults.new.items ≡ noted_after faults.old.items (noted (rest.If (view.expression_of condition.test) (view.statements_of condition.then.items) (one (statement_by self.now around (resolved.statement_of other.now))).tree) (statement_by self.now around (resolved.statement_of other.now)).faults)) }
     {
-        let other = self.arm(around, other, faults)?;
+        let (condition, other) = paired(condition, self.arm(around, other, faults))?;
         Ok(condition.with_else(other))
     }
 
@@ -563,8 +575,8 @@ impl Typer<'_> {
     ) -> Result<Statement, AllocError>
         ensures { IfOk result (λ r. noted (view.statement_of r) faults.new.items ≡ noted_after faults.old.items (spec.while_loop (number_by self.now place (resolved.expression_of test.now)) (statements_by self.now around (resolved.statements_of body.now)))) }
     {
-        let test = self.number_in(place, test, faults)?;
-        let body = self.statements(around, body, faults)?;
+        let asked = self.number_in(place, test, faults)?;
+        let (test, body) = paired(asked, self.statements(around, body, faults))?;
         Ok(Statement::While(test, body))
     }
 
@@ -581,8 +593,8 @@ impl Typer<'_> {
     ) -> Result<Statement, AllocError>
         ensures { IfOk result (λ r. noted (view.statement_of r) faults.new.items ≡ noted_after faults.old.items (spec.cases (count_by self.now place (resolved.expression_of value.now)) (statements_by self.now around (resolved.statements_of cases.now)))) }
     {
-        let value = self.count_in(place, value, faults)?;
-        let cases = self.statements(around, cases, faults)?;
+        let counted = self.count_in(place, value, faults)?;
+        let (value, cases) = paired(counted, self.statements(around, cases, faults))?;
         Ok(Statement::Case(value, cases))
     }
 
@@ -598,21 +610,16 @@ impl Typer<'_> {
     ) -> Result<Statement, AllocError>
         ensures { IfOk result (λ r. noted (view.statement_of r) faults.new.items ≡ noted_after faults.old.items (spec.iterate (noted (view.scalar_of range.index) []) (noted (view.expression_of range.from) []) (noted (view.expression_of range.bound) []) (step_said range.step []) (statements_by self.now around (resolved.statements_of body.now)))) }
     {
-        let Range {
-            index,
-            from,
-            bound,
-            step,
-        } = range;
-        let body = self.statements(around, body, faults)?;
+        let (range, body) = paired(range, self.statements(around, body, faults))?;
         let rounds = Loop {
-            counting: step.counting,
-            index,
-            bound,
-            step: step.tree,
+            counting: range.step.counting,
+            index: range.index,
+            bound: range.bound,
+            step: range.step.tree,
             body,
         };
-        Ok(Statement::Iterate(from, Box::new(self.alloc, rounds)?))
+        let (from, rounds) = paired(range.from, Box::new(self.alloc, rounds))?;
+        Ok(Statement::Iterate(from, rounds))
     }
 
     /// An arm of IF: a list of one statement.

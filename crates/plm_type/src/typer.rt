@@ -1,6 +1,6 @@
 //! What is known while statements are typed: the names and the module; and what is said of an expression: its tree and its type.
 
-ghost use Rattle.std.specs.Prelude.{◌≡◌, ◌∷◌, [], ◌++◌, IfOk, OnOk, Some, option_map, slice_get};
+ghost use Rattle.std.specs.Prelude.{◌≡◌, ◌∷◌, [], ◌++◌, IfOk, OnOk, Ok, Some, option_map, slice_get};
 ghost use Rattle.plm_decl.specs.Names as known;
 ghost use Rattle.plm_type.specs.Inner.Typer.{variables, procedures, said};
 ghost use Rattle.plm_decl.specs.declared.layout.ScalarType.TheVariants.{Integer};
@@ -85,6 +85,17 @@ impl Typed {
     }
 }
 
+/// A value, beside what was made while it was held. What becomes of the value where nothing was made is proved here alone, for
+/// values of any type: it takes long to prove at a large one.
+pub(crate) fn paired<T: Drop, U, E>(held: T, made: Result<U, E>) -> Result<(T, U), E>
+    ensures { IfOk result (λ r. (r.0 ≡ held) × (made ≡ Ok r.1)) }
+{
+    match made {
+        Ok(made) => Ok((held, made)),
+        Err(error) => Err(error),
+    }
+}
+
 /// A list of one item, without room for others.
 pub fn alone<T: Drop>(alloc: Global, item: T) -> Result<Vec<T>, AllocError>
     ensures { IfOk result (λ list. list.items ≡ item ∷ []) }
@@ -121,8 +132,8 @@ impl TypedList {
         ensures trees { OnOk result (self.new.trees.items ≡ self.old.trees.items ++ typed.tree ∷ []) }
         ensures types { OnOk result (self.new.types.items ≡ self.old.types.items ++ typed.scalar ∷ []) }
     {
-        self.types.push(typed.scalar)?;
         self.trees.push(typed.tree)?;
+        self.types.push(typed.scalar)?;
         Ok(())
     }
 
@@ -156,6 +167,22 @@ impl Typer<'_> {
         Ok(())
     }
 
+    /// A value, once a fault is noted where something does not hold of it.
+    pub(crate) fn judged<T: Drop>(
+        &self,
+        value: T,
+        holds: bool,
+        number: Number,
+        place: Position,
+        faults: &mut Vec<Found>,
+    ) -> Result<T, AllocError>
+        ensures value { IfOk result (λ r. r ≡ value) }
+        ensures faults { OnOk result (faults.new.items ≡ faults.old.items ++ found.fault_unless self.now.module holds number place) }
+    {
+        self.note_unless(holds, number, place, faults)?;
+        Ok(value)
+    }
+
     /// Notes the first number that no INTEGER can have.
     fn note_range(&self, numbers: Numbers, faults: &mut Vec<Found>) -> Result<(), AllocError>
         ensures { OnOk result (faults.new.items ≡ faults.old.items ++ number.range_faults self.now.module numbers) }
@@ -180,7 +207,8 @@ impl Typer<'_> {
         if !e.numbers.turn(scalar) {
             return Ok(e);
         }
-        self.note_range(e.numbers, faults)?;
+        let numbers = e.numbers;
+        let (e, ()) = paired(e, self.note_range(numbers, faults))?;
         Ok(e.turned())
     }
 

@@ -1,12 +1,8 @@
 use Rattle.std.proofs.Common.{rules, ◌≡◌, ℕ, ◌+◌, ◌<◌, ◌≤◌, ◌⊎◌, inl, inr, List, Bool, true, false, length, map, slice_get, slice_index_or, get_or, Option, Some, IsTrue, arith, sym, ap, subst, ◌∙◌, ◌↔◌}
 use Rattle.std.proofs.lemmas.List.{length-map}
 use Rattle.plm_decl.specs.declared.names.Procedure.{Procedure}
-use Rattle.plm_decl.specs.declared.resolved.Statement.{Statement}
 use Rattle.plm_decl.specs.Names.{ProcedureR, procedure_of}
-use Rattle.plm_decl.specs.ResolvedView as resolved
-use Rattle.plm_type.specs.Effects.{of_statements}
-use Rattle.plm_type.specs.Inner.Interrupts.{IsCalledIn}
-use Rattle.plm_type.specs.Inner.Reach.{rows, IsMarked}
+use Rattle.plm_type.specs.Inner.Reach.{IsMarked}
 use Rattle.plm_type.specs.Interrupts as spec
 use Rattle.plm_type.proofs.Faultless.{misused_there}
 use Rattle.plm_type.proofs.MarkedLists.{marked_more, marked_all, at_map}
@@ -34,17 +30,9 @@ loop-number-preserved c =
     let same : c.deref-procedure-items.result.now ≡ ps = c.deref-procedure-items.ensures.value in
     let less : i < length ps = subst (λ (l : List Procedure). i < length l) same c.loop-number-test.true in
     let here : Some (procedure_of x) ≡ slice_get (map procedure_of ps) i = at_map procedure_of ps i x less (c.procedure-item.is ∙ ap (λ (l : List Procedure). get_or l i x) same) in
-    let graph : rows c.deref-5.result.now ≡ spec.text_graph (map procedure_of ps) =
-    ap rows c.deref-5.ensures.value ∙ c.in_ok-graph.ensures ∙ ap (λ (l : List Procedure). spec.text_graph (map procedure_of l)) c.deref.ensures.value in
-    let effects : c.deref-4.result.now ≡ of_statements (resolved.statements_of names.main.statements.items) =
-    c.deref-4.ensures.value ∙ c.in_ok-effects.ensures ∙ ap (λ (l : List Statement). of_statements (resolved.statements_of l)) c.deref-2.ensures.value in
-    let main : c.deref-6.result.now ≡ spec.main_calls names =
-    c.deref-6.ensures.value ∙ c.in_ok-main.ensures ∙ (λ j. spec.called (map procedure_of (c.deref-3.ensures.value j)) (effects j)) in
-    let size : length c.deref-5.result.now ≡ length ps = sym (length-map c.deref-5.result.now (λ v. v.items)) ∙ ap length graph ∙ length-map (map procedure_of ps) _ ∙ length-map ps procedure_of in
     let mark : slice_index_or c.in_ok-are_called.are_called.items i false ≡ c.is_marked.result =
-    sym (c.is_marked.ensures ∙ ap (λ (l : List Bool). slice_index_or l i false) c.deref-in-loop-number.ensures.value) in
-    let marked : IsTrue c.is_marked.result ↔ spec.IsCalled names i =
-    subst (λ (T : Type 0). T) (λ j. (mark j ≡ true) ↔ IsCalledIn (graph j) (main j) i) (c.in_ok-are_called.ensures i (subst (λ n. i < n) (sym size) less)) in
+    sym (c.is_marked.ensures ∙ ap (λ (l : List Bool). slice_index_or l i false) c.deref.ensures.value) in
+    let marked : IsTrue c.is_marked.result ↔ spec.IsCalled names i = subst (λ (m : Bool). (m ≡ true) ↔ spec.IsCalled names i) mark (c.in_ok-are_called.ensures i less) in
     let last : IsTrue b ↔ spec.IsMisused names i =
     subst (λ (p : Option ProcedureR). IsTrue b ↔ Misused p (spec.IsCalled names i)) here (through c.is_misused.ensures (misused_by (Some (procedure_of x)) (IsTrue c.is_marked.result) (spec.IsCalled names i) marked)) in
     record {

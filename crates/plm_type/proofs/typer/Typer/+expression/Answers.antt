@@ -18,12 +18,12 @@ use Rattle.plm_type.specs.Typing.{given_if, is_target, is_plain, first_type, oth
 use Rattle.plm_type.specs.Faults as found
 use Rattle.plm_type.specs.Typer.{Typed, TypedList}
 use Rattle.plm_type.specs.Expressions as spec
-use Rattle.plm_type.specs.Inner.Typer.{variables, procedures, sizes, said, list_said, after, target_after, list_after, typed_by, list_by, given_by, selector_by, parts_by, value_by, arguments_by, argument_by, location_by, target_by}
+use Rattle.plm_type.specs.Inner.Typer.{variables, procedures, sizes, said, target_said, list_said, after, target_after, list_after, typed_by, list_by, given_by, selector_by, parts_by, value_by, arguments_by, argument_by, location_by, target_by}
 use Rattle.plm_type.specs.Inner.Chains.{chain}
 use Rattle.plm_type.proofs.Lists.{drop_at, one_is, many_are, expressions_at, given_taken, trees_before, trees_pushed, trees_all, list_before}
 use Rattle.plm_type.proofs.Leaning.{leaned_after, leaned_alone, leaned_joined}
 use Rattle.plm_type.proofs.Parts.{is_zero, not_zero}
-use Rattle.plm_type.proofs.Said.{typed_moved, target_moved, typed_with, own_after, target_own_after, embedded_said, joined_said, parts_made, wanted_after}
+use Rattle.plm_type.proofs.Said.{typed_moved, target_moved, typed_at, typed_with, own_after, target_own_after, embedded_said, joined_said, parts_made, wanted_after}
 use Rattle.plm_type.proofs.typer.Typer.+expression.Goals as goal
 
 -- what is said of an expression, said of what it is
@@ -63,16 +63,19 @@ expression-returns-in_ok-typed-in-Parenthesised t c =
     ∙ ap spec.parenthesised did
     ∙ ap (λ (x : ExpressionR). after old (typed_by self x)) is
 
-pub expression-returns-in_ok-value-in-Embedded : goal.expression-returns-in_ok-value-in-Embedded
-expression-returns-in_ok-value-in-Embedded t c =
+pub expression-returns-in_ok-target-in-Embedded : goal.expression-returns-in_ok-target-in-Embedded
+expression-returns-in_ok-target-in-Embedded t c =
     let at = c.in-Embedded in
     let self = c.args.self.now in
     let old = c.args.faults.now.items in
     let x = resolved.reference_of at.target in
     let e = resolved.expression_of at.value.value in
     let is = sym (ap resolved.expression_of at.is ∙ c.resolved_trees_have_their_lists.ensures.embedded at.place at.target at.value) in
-    let value = c.in_ok-value-in-Embedded.ensures ∙ (λ j. after c.target.new.faults.items (typed_by self (resolved.expression_of (c.deref-in-Embedded.ensures j)))) in
-    let path = embedded_said self.module at.place old (target_by self x) _ (typed_by self e) _ c.in_ok-target-in-Embedded.ensures value in
+    let pair = c.in_ok-target-in-Embedded.ensures in
+    let noted = c.expression-in-Embedded.new.faults.items in
+    let value = typed_at noted pair.1 c.expression-in-Embedded.ensures ∙ (λ j. after c.target.new.faults.items (typed_by self (resolved.expression_of (c.deref-in-Embedded.ensures j)))) in
+    let path = (λ j. spec.embedded self.module at.place (target_said (pair.0 j) noted) (said c.in_ok-target-in-Embedded.value []))
+    ∙ embedded_said self.module at.place old (target_by self x) _ (typed_by self e) _ c.in_ok-stored-in-Embedded.ensures value in
     spoken self old c.embedded.result c.embedded.new.faults.items is (typed_moved c.embedded.result c.embedded.new.faults.items path c.embedded.ensures)
 
 pub expression-returns-in_ok-operand-in-Unary : goal.expression-returns-in_ok-operand-in-Unary
@@ -111,7 +114,11 @@ operations-loop-operation-preserved t c =
     let from = chain (variables self) (procedures self) (sizes self) self.module first in
     let so_far = said here.typed here.faults.items in
     let at = sym (drop_at c.args.operations.now i o c.loop-operation-test.true c.operation-item.is) in
-    let made = c.in_ok-typed.ensures ∙ joined_said self.module o.place o.operator first so_far (typed_by self (resolved.expression_of o.operand)) _ c.in_ok-right.ensures in
+    let pair = c.in_ok-so_far.ensures in
+    let noted = c.expression.new.faults.items in
+    let right = typed_at noted pair.1 c.expression.ensures in
+    let made = c.in_ok-typed.ensures ∙ (λ j. spec.binary self.module o.place o.operator first (said (pair.0 j) noted) (said c.in_ok-so_far.right []))
+    ∙ joined_said self.module o.place o.operator first so_far (typed_by self (resolved.expression_of o.operand)) _ right in
     ap (λ (x : Typed). from x (drop (i + 1) c.args.operations.now)) made ∙ ap (from so_far) at ∙ here.invariant
 
 pub operations-returns : goal.operations-returns
@@ -325,13 +332,13 @@ arguments-returns-in-len1 t c =
     let path = ap (λ (es : ExpressionsR). after c.args.faults.now.items (arguments_by self c.args.place c.args.builtin es)) is in
     typed_moved c.argument.result c.argument.new.faults.items path c.argument.ensures
 
-pub arguments-returns-in_ok-argument-in-len2-up : goal.arguments-returns-in_ok-argument-in-len2-up
-arguments-returns-in_ok-argument-in-len2-up t c =
+pub arguments-returns-in_ok-judged-in-len2-up : goal.arguments-returns-in_ok-judged-in-len2-up
+arguments-returns-in_ok-judged-in-len2-up t c =
     let self = c.args.self.now in
     let old = c.args.faults.now.items in
     let first = argument_by self c.args.place c.args.builtin (resolved.expression_of c.first-item.result) in
     let refused = spec.refused self.module E402 c.args.place in
-    let path = ap (λ (e : Typed). after e.faults refused) c.in_ok-argument-in-len2-up.ensures
+    let path = ap (λ (e : Typed). after e.faults refused) c.in_ok-judged-in-len2-up.ensures
     ∙ own_after refused old first.faults refused.faults
     ∙ ap (after old) (many_are (variables self) (procedures self) (sizes self) self.module c.args.place c.args.builtin c.args.es.now c.first-item.result c.in-len2-up.len_at_least c.first-item.is) in
     typed_moved c.miscounted-in-len2-up.result c.miscounted-in-len2-up.new.faults.items path c.miscounted-in-len2-up.ensures

@@ -1,13 +1,13 @@
 use Rattle.std.proofs.Common.{◌+◌, ◌++◌, List, drop, append_assoc, sym, ap, ◌∙◌}
 use Rattle.std.proofs.lemmas.List.{append-nil, drop_all}
-use Rattle.std.specs.Global.{Box}
+use Rattle.std.specs.Global.{Box, Vec}
 use Rattle.plm_decl.specs.declared.found.Found.{Found}
 use Rattle.plm_decl.specs.declared.resolved.Bounds.{Bounds}
 use Rattle.plm_decl.specs.declared.resolved.Statement as declared_resolved
 use Rattle.plm_decl.specs.Resolved.{StatementR, IfR, IfElseR, DoR, WhileR, CaseR, IterateR, StatementsR}
 use Rattle.plm_decl.specs.ResolvedView as resolved
-use Rattle.plm_type.specs.declared.program.Loop.{Loop}
 use Rattle.plm_type.specs.declared.program.Statement.{Statement}
+use Rattle.plm_type.specs.declared.statements.Range.{Range}
 use Rattle.plm_type.specs.Rest as rest
 use Rattle.plm_type.specs.Inner.Typer.{one, variables, noted, noted_after, number_by, bound_by, index_by, step_by, range_by, statement_by, statements_by}
 use Rattle.plm_type.specs.Typer.{Noted}
@@ -15,7 +15,7 @@ use Rattle.plm_type.specs.Typing.{variable_type}
 use Rattle.plm_type.specs.Statements as spec
 use Rattle.plm_type.specs.View as view
 use Rattle.plm_type.proofs.Rows.{statement_row, iterate_tree}
-use Rattle.plm_type.proofs.Said.{noted_moved}
+use Rattle.plm_type.proofs.Said.{noted_moved, noted_at, boxed_at}
 use Rattle.plm_type.proofs.Lists.{statements_at, statements_before, statements_pushed, statements_all, noted_before}
 use Rattle.plm_type.proofs.typer.Typer.+statement.Goals as goal
 
@@ -111,11 +111,21 @@ statement-returns-in_ok-range-in-Iterate t c =
 
 pub condition-returns : goal.condition-returns
 condition-returns t c =
-    let test = c.in_ok-test.ensures in
-    let arm = c.in_ok-then.ensures in
+    let test = c.in_ok-asked.ensures in
+    let both = c.in_ok-test.ensures in
+    let arm = noted_at (λ (b : Vec (Box Statement)). view.statements_of b.items) c.arm.new.faults.items both.1 c.arm.ensures in
     let only = statement_by c.args.self.now c.args.around (resolved.statement_of c.args.then.now) in
     let faults = (λ j. (arm j).faults) ∙ (λ j. (test j).faults ++ only.faults) ∙ append_assoc c.args.faults.now.items _ only.faults in
-    λ j. noted (rest.If (test j).tree (arm j).tree rest.End) (faults j)
+    (λ j. noted (rest.If (view.expression_of (both.0 j)) (view.statements_of c.in_ok-test.then.items) rest.End) c.arm.new.faults.items)
+    ∙ (λ j. noted (rest.If (test j).tree (arm j).tree rest.End) (faults j))
+
+pub choice-returns : goal.choice-returns
+choice-returns t c =
+    let both = c.in_ok-condition.ensures in
+    let arm = noted_at (λ (b : Vec (Box Statement)). view.statements_of b.items) c.arm.new.faults.items both.1 c.arm.ensures in
+    (λ j. noted (c.with_else.ensures j) c.arm.new.faults.items)
+    ∙ (λ j. noted (rest.If (view.expression_of (both.0 j).test) (view.statements_of (both.0 j).then.items) (view.statements_of c.in_ok-condition.other.items)) c.arm.new.faults.items)
+    ∙ (λ j. noted (rest.If (view.expression_of c.args.condition.test) (view.statements_of c.args.condition.then.items) (arm j).tree) (arm j).faults)
 
 pub block-returns : goal.block-returns
 block-returns t c =
@@ -125,30 +135,38 @@ block-returns t c =
 
 pub while_loop-returns : goal.while_loop-returns
 while_loop-returns t c =
-    let test = c.in_ok-test.ensures in
-    let body = c.in_ok-body.ensures in
+    let asked = c.in_ok-asked.ensures in
+    let both = c.in_ok-test.ensures in
+    let body = noted_at (λ (b : Vec (Box Statement)). view.statements_of b.items) c.statements.new.faults.items both.1 c.statements.ensures in
     let all = statements_by c.args.self.now c.args.around (resolved.statements_of c.args.body.now) in
-    let tree = statement_row c.in_ok-body.body ∙ (λ j. (body j).tree) in
-    let faults = (λ j. (body j).faults) ∙ (λ j. (test j).faults ++ all.faults) ∙ append_assoc c.args.faults.now.items _ all.faults in
-    λ j. noted (rest.While (test j).tree (test j).tree (tree j)) (faults j)
+    let test = ap view.expression_of both.0 ∙ (λ j. (asked j).tree) in
+    let tree = statement_row c.in_ok-test.body ∙ (λ j. (body j).tree) in
+    let faults = (λ j. (body j).faults) ∙ (λ j. (asked j).faults ++ all.faults) ∙ append_assoc c.args.faults.now.items _ all.faults in
+    λ j. noted (rest.While (test j) (test j) (tree j)) (faults j)
 
 pub case-returns : goal.case-returns
 case-returns t c =
-    let value = c.in_ok-value.ensures in
-    let cases = c.in_ok-cases.ensures in
+    let counted = c.in_ok-counted.ensures in
+    let both = c.in_ok-value.ensures in
+    let cases = noted_at (λ (b : Vec (Box Statement)). view.statements_of b.items) c.statements.new.faults.items both.1 c.statements.ensures in
     let all = statements_by c.args.self.now c.args.around (resolved.statements_of c.args.cases.now) in
-    let tree = statement_row c.in_ok-cases.cases ∙ (λ j. (cases j).tree) in
-    let faults = (λ j. (cases j).faults) ∙ (λ j. (value j).faults ++ all.faults) ∙ append_assoc c.args.faults.now.items _ all.faults in
-    λ j. noted (rest.Case (value j).tree (tree j)) (faults j)
+    let value = ap view.expression_of both.0 ∙ (λ j. (counted j).tree) in
+    let tree = statement_row c.in_ok-value.cases ∙ (λ j. (cases j).tree) in
+    let faults = (λ j. (cases j).faults) ∙ (λ j. (counted j).faults ++ all.faults) ∙ append_assoc c.args.faults.now.items _ all.faults in
+    λ j. noted (rest.Case (value j) (tree j)) (faults j)
 
 pub iterate-returns : goal.iterate-returns
 iterate-returns t c =
     let r = c.args.range in
-    let did = c.in_ok-body.ensures in
-    let made = c.in_ok-new in
-    let first = rest.Iterate (view.expression_of r.from) in
-    let count = rest.Count r.step.counting (view.scalar_of r.index) (view.expression_of r.bound) (view.expression_of r.step.tree) in
-    let tree = iterate_tree r.from made.field-0 ∙ ap (λ (l : Loop). first (view.loop_of l)) made.ensures.ok ∙ (λ j. first (count (did j).tree)) in
+    let both = c.in_ok-range.ensures in
+    let did = noted_at (λ (b : Vec (Box Statement)). view.statements_of b.items) c.statements.new.faults.items both.1 c.statements.ensures in
+    let made = c.in_ok-from in
+    let rounds = boxed_at made.ensures.1 c.new.ensures.ok in
+    let whole : Range → rest.Statements → rest.Statement = λ x ss.
+    rest.Iterate (view.expression_of x.from) (rest.Count x.step.counting (view.scalar_of x.index) (view.expression_of x.bound) (view.expression_of x.step.tree) ss) in
+    let tree = iterate_tree made.from made.rounds
+    ∙ (λ j. rest.Iterate (view.expression_of (made.ensures.0 j)) (view.loop_of (rounds j)))
+    ∙ (λ j. whole (both.0 j) (did j).tree) in
     λ j. noted (tree j) (did j).faults
 
 -- ---- lists

@@ -7,10 +7,9 @@ use Rattle.plm_type.specs.Faults.{fault_unless}
 use Rattle.plm_type.specs.Typer.{Typed, TypedTargets, Noted}
 use Rattle.plm_type.specs.Expressions.{wanted}
 use Rattle.plm_type.specs.Rest as rest
-use Rattle.plm_type.specs.Inner.Typer.{said, targets_said, noted, after, typed_by, targets_by}
+use Rattle.plm_type.specs.Inner.Typer.{targets_said, noted, after, typed_by, targets_by}
 use Rattle.plm_type.specs.Statements as spec
-use Rattle.plm_type.specs.View.{expression_of}
-use Rattle.plm_type.proofs.Said.{wanted_after}
+use Rattle.plm_type.specs.View.{statement_of}
 use Rattle.plm_type.proofs.typer.Typer.assign_all.Goals as goal
 
 pub returns : goal.returns
@@ -27,12 +26,12 @@ returns c =
     let own : List (Option ScalarType) → Option ScalarType → List Found = λ ts t. fault_unless m (spec.all_take ts t) E401 first in
     let whole : TypedTargets → Typed → Noted rest.Statement = λ ts v. noted (spec.assignment ts.trees v.tree) (v.faults ++ own ts.types v.scalar) in
     let among = c.wanted_among.ensures ∙ ap spec.wanted_among c.deref.ensures.value in
-    let value = c.in_ok-value.ensures ∙ ap (λ (t : Option ScalarType). wanted m t (said c.in_ok-typed.typed c.expression.new.faults.items)) among in
-    let did = wanted_after m (spec.wanted_among types) noted_targets e _ _ c.in_ok-typed.ensures value in
+    let did = c.in_ok-value.ensures ∙ ap (λ (t : Option ScalarType). after noted_targets (wanted m t e)) among in
     let taken = c.all_take-are_taken.ensures ∙ ap (λ (l : List (Option ScalarType)). spec.all_take l c.in_ok-value.value.scalar) c.deref-2.ensures.value in
-    let faults = c.in_ok-note_unless.ensures ∙ (λ j. c.wanted.new.faults.items ++ fault_unless m (taken j) E401 (c.first_target.ensures j)) in
+    let assigned = c.in_ok-assigned.ensures in
+    let faults = assigned.faults ∙ (λ j. c.value_for.new.faults.items ++ fault_unless m (taken j) E401 (c.first_target-place.ensures j)) in
     let turned = wanted m (spec.wanted_among stored.types) e in
-    (λ j. noted (c.assignment.ensures j) (faults j))
+    (λ j. noted ((ap statement_of assigned.value ∙ c.assignment-statement.ensures) j) (faults j))
     ∙ ap (whole (targets_said targets noted_targets)) did
     ∙ ap (λ (ts : TypedTargets). whole ts (after ts.faults (wanted m (spec.wanted_among ts.types) e))) c.in_ok-targets.ensures
     ∙ ap (noted (spec.assignment stored.trees turned.tree)) (append_assoc (old ++ stored.faults) turned.faults (own stored.types turned.scalar) ∙ append_assoc old stored.faults (turned.faults ++ own stored.types turned.scalar))

@@ -8,5 +8,5 @@ use Rattle.plm_type.proofs.typer.Typer.declared_location.Goals as goal
 pub returns : goal.returns
 returns c =
     let made = c.of_module.ensures in
-    (λ j. (c.in_ok-location.ensures j).faults)
+    (λ j. (c.in_ok-typed.ensures j).faults)
     ∙ (λ j. c.args.faults.now.items ++ (location (made.names j).variables.items (map procedure_of (made.names j).procedures.items) (sizes_of (made.names j)) (made.index j) (resolved.location_of c.args.declared.now.location)).faults)

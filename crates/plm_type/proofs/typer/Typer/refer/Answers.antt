@@ -36,9 +36,9 @@ returns c =
     let made = c.line-line.ensures in
     let first : c.strided.new.subscripts.items ≡ map (with_stride v.stride) outer.items =
     c.in_ok-strided.ensures
-    ∙ ap (λ (l : List Subscript). l ++ map (with_stride v.stride) c.into_trees.result.items) c.in_ok-subscripts.ensures.items
-    ∙ ap (λ (t : Vec Expression). map (with_stride v.stride) t.items) c.into_trees.ensures in
-    let both = c.in_ok-strided-2.ensures ∙ (λ j. first j ++ map (with_stride (c.member_stride.ensures j)) (c.into_trees-2.ensures j).items) in
+    ∙ ap (λ (l : List Subscript). l ++ map (with_stride v.stride) c.into_trees-outer.result.items) c.in_ok-subscripts.ensures.items
+    ∙ ap (λ (t : Vec Expression). map (with_stride v.stride) t.items) c.into_trees-outer.ensures in
+    let both = c.in_ok-strided-2.ensures ∙ (λ j. first j ++ map (with_stride (c.member_stride.ensures j)) (c.into_trees-inner.ensures j).items) in
     let anchored = c.anchor.ensures ∙ ap (λ (l : List Variable). anchor_for l v) c.deref.ensures.value in
     let all = ap view.subscripts_of both ∙ strided_are v.stride _ outer.items inner.items in
     reference_made c.line-line.result c.anchor.result c.member_offset.result c.strided-2.new.subscripts

@@ -1,0 +1,19 @@
+use Rattle.std.proofs.Common.{◌++◌, List, Option, ap, ◌∙◌}
+use Rattle.word86.specs.declared.number.Number.TheVariants.{E401}
+use Rattle.plm_decl.specs.declared.layout.ScalarType.{ScalarType}
+use Rattle.plm_decl.specs.declared.found.Found.{Found}
+use Rattle.plm_type.specs.Faults.{fault_unless}
+use Rattle.plm_type.specs.Rest as rest
+use Rattle.plm_type.specs.Inner.Typer.{noted}
+use Rattle.plm_type.specs.Types.{may_count}
+use Rattle.plm_type.specs.View.{expression_of}
+use Rattle.plm_type.proofs.Said.{judged_after}
+use Rattle.plm_type.proofs.typer.Typer.count_in.Goals as goal
+
+pub returns : goal.returns
+returns c =
+    let m = c.args.self.now.module in
+    let own : Option ScalarType → List Found = λ t. fault_unless m (may_count t) E401 c.args.place in
+    let did = c.in_ok-tree.ensures in
+    let judged = did.faults ∙ ap (λ b. c.expression.new.faults.items ++ fault_unless m b E401 c.args.place) c.may_count-counts.ensures in
+    (λ j. noted (expression_of (did.value j)) (judged j)) ∙ judged_after (λ (x : rest.Expression). x) own c.args.faults.now.items _ _ c.in_ok-typed.ensures
