@@ -32,12 +32,24 @@ def digest(*texts):
     return whole.hexdigest()
 
 
+def cited_words(repository):
+    """Returns, by the names of crates, the words of the files of other crates that cite its antt."""
+    found = {}
+    for name in repository.deps:
+        folder = repository.folder(name)
+        for text in (text_of(f"{at}/{it}") for part in PARTS for at, _, names in os.walk(f"{folder}/{part}") for it in names):
+            for cited in {*re.findall(r"\bRattle\.(\w+)", text)} & {*repository.deps} - {name}:
+                found.setdefault(cited, set()).update(statements.words_of([text]))
+    return found
+
+
 class Digests:
     """The digests of a repository's crates, each with what those below it state, and of their edits."""
 
     def __init__(self, repository):
         self.repository, self.made = repository, {}
         self.judge = digest(text_of(f"{TOOLS}/must_fail.py"))
+        self.cited = cited_words(repository)
 
     def of_files(self, name, parts, read):
         """Returns the digest of a crate's files in these of its folders, read so, with its row of crates.txt and what the crates below it state."""
@@ -45,11 +57,11 @@ class Digests:
             folder = self.repository.folder(name)
             files = sorted(os.path.relpath(f"{at}/{it}", folder) for part in parts for at, _, names in os.walk(f"{folder}/{part}") for it in names)
             rows = [it for it in text_of(f"{self.repository.top}/crates.txt").split("\n") if re.split(r"[ :]", it)[0] == name]
-            self.made[name, parts] = digest(*rows, *map(self.statements, self.repository.deps[name]), *files, *read(folder, files))
+            self.made[name, parts] = digest(*rows, *map(self.statements, self.repository.deps[name]), *read(folder, files))
         return self.made[name, parts]
 
     def statements(self, name):
-        return self.of_files(name, ("src", "specs"), statements.stated)
+        return self.of_files(name, ("src", "specs"), lambda folder, files: statements.stated(folder, files, self.cited.get(name, set())))
 
     def crate(self, name):
         return digest(self.judge, self.of_files(name, PARTS, statements.whole))

@@ -2,13 +2,15 @@
 
 Both are lists of texts, a file's each, of the tokens as the prover reads them, which have no comments and no layout.
 
-What a crate states has no functions that it keeps to itself, and no imports that nothing else there names: no proof of a crate above can cite either.
+What a crate states has no functions that it keeps to itself, and no types of its own and no imports that nothing else there names: no proof of a crate above can cite any of these.
+(Antt can name a type that the crate keeps to itself: so one counts as named where it stands in a file of another crate that cites the antt of this one.) Files of which nothing is left then are no part of it, nor are the lines that make these its modules.
 It has all of specs/, the files of Inner too, since the invariant of a type for others may name a definition there.
 """
 
 import enum
 import json
 import re
+from collections import Counter
 
 import kit
 
@@ -74,15 +76,10 @@ def without_derives(tokens):
     return kept
 
 
-def is_attribute(tokens, at):
-    """Returns whether an attribute stands here, of an item or of the file."""
-    return is_code(tokens, at, "#", "[") or is_code(tokens, at, "#", "!", "[")
-
-
 def end_of_head_part(tokens, at):
     """Returns the place behind an attribute, a `pub` or another word that stands here before an item's own, or this place where none does."""
-    if is_attribute(tokens, at):
-        return end_of(tokens, at + 1 + is_code(tokens, at, "#", "!"))
+    if is_code(tokens, at, "#", "["):
+        return end_of(tokens, at + 1)
     if is_code(tokens, at, "pub", "("):
         return end_of(tokens, at + 1)
     kind, text = tokens[at]
@@ -152,11 +149,80 @@ def imports_of(tokens):
 
 
 def without_idle_imports(tokens):
-    """Returns the tokens without the imports of names that nothing else there has. A name with signs, as an operator's, may stand apart there: its import stays."""
+    """Returns the tokens without the imports of names that nothing else there has. Of a name with signs, as an operator's, the parts may stand apart there, in antt alone."""
     kept, found = imports_of(tokens)
-    words = {it for _, text in kept for it in re.findall(r"[\w+'-]+", json.loads(text))}
-    used = sorted({f"{path} as {name}" for path, name in found if name in words or not re.fullmatch(r"[\w+'-]+", name)})
+    words = words_of(json.loads(text) for _, text in kept)
+    of_antt = {json.loads(text) for kind, text in kept if kind != CODE}
+    stands = lambda name: name in words if re.fullmatch(r"[\w+'-]+", name) else all(any(part in it for it in of_antt) for part in name.split("◌"))
+    used = sorted({f"{path} as {name}" for path, name in found if stands(name)})
     return [("Import", json.dumps(it)) for it in used] + kept
+
+
+def words_of(texts):
+    return {it for text in texts for it in re.findall(r"[\w+'-]+", text)}
+
+
+def all_words(tokens):
+    """Returns the words of the tokens, each as often as it stands there."""
+    return [it for _, text in tokens for it in re.findall(r"[\w+'-]+", json.loads(text))]
+
+
+def own_types(tokens):
+    """Returns the types that other crates cannot name in their code: the name of each, where what stands before it begins and where it ends."""
+    found, at, head, is_public = [], 0, 0, False
+    while at < len(tokens):
+        part = end_of_head_part(tokens, at)
+        if part > at:
+            is_public = is_public or is_code(tokens, at, "pub") and not is_code(tokens, at, "pub", "(")
+            at = part
+            continue
+        is_type = (is_code(tokens, at, "struct") or is_code(tokens, at, "enum")) and is_name(tokens, at + 1)
+        end = end_of(tokens, body_of(tokens, at)) if is_type else at + 1
+        if is_type and not is_public:
+            found.append((json.loads(tokens[at + 1][1]), head, end))
+        at, head, is_public = end, end, False
+    return found
+
+
+def without_empty_impls(tokens):
+    """Returns the tokens without the blocks of a type's own functions of which none is left."""
+    kept, at = [], 0
+    while at < len(tokens):
+        opened = block_of_impl(tokens, at) if is_code(tokens, at, "impl") else None
+        if opened and opened[0] == opened[1] and is_code(tokens, opened[0], "{", "}"):
+            at = opened[0] + 2
+        else:
+            kept.append(tokens[at])
+            at += 1
+    return kept
+
+
+def without_idle_types(files, named_elsewhere):
+    """Returns the files without the types of their own that nothing else there names, nor any of the words that are named elsewhere."""
+    counts = Counter(word for it in files for word in all_words(it))
+    for at, tokens in enumerate(files):
+        for name, begins, ends in reversed(own_types(tokens)):
+            of_type = Counter(all_words(tokens[begins:ends]))
+            if name not in named_elsewhere and counts[name] == of_type[name]:
+                counts -= of_type
+                files = [*files[:at], files[at][:begins] + files[at][ends:], *files[at + 1 :]]
+                # (what that one named may be idle now)
+                return without_idle_types(files, named_elsewhere)
+    return files
+
+
+def without_idle_modules(tokens, empty):
+    """Returns the tokens without the lines that make one of these names a module, where nothing stands before `mod`."""
+    kept, at = [], 0
+    while at < len(tokens):
+        part = end_of_head_part(tokens, at)
+        is_line = part == at and is_code(tokens, at, "mod") and is_name(tokens, at + 1) and is_code(tokens, at + 2, ";")
+        if is_line and json.loads(tokens[at + 1][1]) in empty:
+            at += 3
+        else:
+            kept += tokens[at : part + 1]
+            at = part + 1
+    return kept
 
 
 class Item(enum.Enum):
@@ -198,10 +264,20 @@ def told(tokens):
 
 
 def whole(folder, files):
-    """Returns what a crate's own proofs rest on of these files of it."""
-    return [told(without_derives(it)) for it in read(folder, files)]
+    """Returns what a crate's own proofs rest on of these files of it: their names and their texts."""
+    return [*files, *(told(without_derives(it)) for it in read(folder, files))]
 
 
-def stated(folder, files):
-    """Returns what the proofs of crates above can rest on of these files."""
-    return [told(without_idle_imports(without_bodies(without_own_functions(without_derives(it))))) for it in read(folder, files)]
+def stated(folder, files, named_elsewhere):
+    """Returns what the proofs of crates above can rest on of these files: the names and the texts of those that state something. Words that other crates' antt has are named elsewhere."""
+    found = dict(zip(files, read(folder, files)))
+    sources = [it for it in files if it.endswith(".rt")]
+    named = named_elsewhere | {word for file in files if file not in sources for word in all_words(found[file])}
+    of_sources = [without_empty_impls(without_bodies(without_own_functions(without_derives(found[it])))) for it in sources]
+    found |= dict(zip(sources, map(without_idle_imports, without_idle_types(of_sources, named))))
+    module = lambda file: re.sub(r"(/mod)?\.rt$", "", file).split("/")[-1]
+    empty = {module(it) for it in sources if not found[it]} - {module(it) for it in sources if found[it]}
+    found |= {it: without_idle_modules(found[it], empty) for it in sources}
+    # (a file of which only such lines were left states nothing either)
+    kept = [it for it in files if found[it]]
+    return [*kept, *(told(found[it]) for it in kept)]
