@@ -13,7 +13,7 @@ use std::alloc::Global;
 use word86::{Fault, Number, STACK_ROOM};
 
 /// How much of the stack main and an interrupt take at most, in bytes.
-#[derive(Clone, Copy, PartialEq, Eq)]
+#[derive(Clone, Copy)]
 pub struct Stack {
     pub main: u16,
     pub handler: u16,

@@ -10,7 +10,7 @@ use bitflags::{Flag, Flags as _, bitflag_items};
 use word86::Width;
 
 /// The flag bits of the 8086.
-#[derive(Clone, Copy, PartialEq, Eq)]
+#[derive(Clone, Copy)]
 pub struct Flags(u16);
 
 bitflag_items! {

@@ -8,7 +8,7 @@ use std::alloc::AllocError;
 use word86::Width;
 
 /// An operation on two operands, in the order of its number in an encoding.
-#[derive(Clone, Copy, PartialEq, Eq)]
+#[derive(Clone, Copy)]
 pub enum AluOperation {
     Add,
     Or,
@@ -30,7 +30,7 @@ pub enum UnaryOperation {
 }
 
 /// A shift or a rotation.
-#[derive(Clone, Copy, PartialEq, Eq)]
+#[derive(Clone, Copy)]
 pub enum ShiftOperation {
     Rol,
     Ror,
@@ -40,21 +40,21 @@ pub enum ShiftOperation {
 }
 
 /// How often a shift goes by one place: once, or as often as CL says.
-#[derive(Clone, Copy, PartialEq, Eq)]
+#[derive(Clone, Copy)]
 pub enum Count {
     One,
     Cl,
 }
 
 /// Whether a multiplication or division reads its operands as two's complement.
-#[derive(Clone, Copy, PartialEq, Eq)]
+#[derive(Clone, Copy)]
 pub enum Signedness {
     Unsigned,
     Signed,
 }
 
 /// When a conditional jump is taken, in the order of its number in an encoding.
-#[derive(Clone, Copy, PartialEq, Eq)]
+#[derive(Clone, Copy)]
 pub enum Condition {
     Overflow,
     NotOverflow,
@@ -75,7 +75,7 @@ pub enum Condition {
 }
 
 /// The registers whose sum an effective address begins with.
-#[derive(Clone, Copy, PartialEq, Eq)]
+#[derive(Clone, Copy)]
 pub enum Base {
     BxSi,
     BxDi,
@@ -164,7 +164,7 @@ pub enum Port {
 }
 
 /// Whether a string instruction stands alone or is repeated as often as CX says.
-#[derive(Clone, Copy, PartialEq, Eq)]
+#[derive(Clone, Copy)]
 pub enum Repeat {
     Once,
     WhileCx,

@@ -37,7 +37,7 @@ pub enum Register8 {
 }
 
 /// A segment register, in the order of its number in an encoding.
-#[derive(Clone, Copy, PartialEq, Eq)]
+#[derive(Clone, Copy)]
 pub enum Segment {
     Es,
     Cs,
@@ -46,7 +46,7 @@ pub enum Segment {
 }
 
 /// A segment register that MOV and POP may load: CS is loaded by jumps alone.
-#[derive(Clone, Copy, PartialEq, Eq)]
+#[derive(Clone, Copy)]
 pub enum LoadableSegment {
     Es,
     Ss,

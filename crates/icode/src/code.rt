@@ -18,14 +18,14 @@ pub enum Routine {
 }
 
 /// An instruction's place: its index among those of a routine.
-#[derive(Clone, Copy, PartialEq, Eq)]
+#[derive(Clone, Copy)]
 pub struct Position {
     pub routine: Routine,
     pub index: usize,
 }
 
 /// A word on the stack: a value, or where a call goes on.
-#[derive(Clone, Copy, PartialEq, Eq)]
+#[derive(Clone, Copy)]
 pub enum Word {
     Value(u16),
     Return(Position),

@@ -7,7 +7,7 @@ use frames::Stack;
 use plm_decl::Placement;
 
 /// How large a ROM is.
-#[derive(Clone, Copy, PartialEq, Eq)]
+#[derive(Clone, Copy)]
 pub enum RomSize {
     /// 8 KiB.
     Kib8,

@@ -18,7 +18,7 @@ use word86::{Fault, Number};
 const LARGE: usize = 0x10_0000;
 
 /// How many bytes start-up takes of a ROM.
-#[derive(Clone, Copy, PartialEq, Eq)]
+#[derive(Clone, Copy)]
 pub struct StartUpRoom {
     /// Its code.
     pub code: usize,

@@ -10,7 +10,7 @@ ghost use Rattle.pic8259.specs.Calls.{after, after_one, reply_of, replies_of};
 use crate::pic::Pic;
 
 /// A call of the chip.
-#[derive(Clone, Copy, PartialEq, Eq)]
+#[derive(Clone, Copy)]
 pub enum Call {
     /// A word at this level of line A0.
     Write(u8, u8),

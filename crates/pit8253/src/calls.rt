@@ -8,7 +8,7 @@ ghost use Rattle.pit8253.specs.Calls.{after, after_one, reply_of, replies_of, No
 use crate::pit::Pit;
 
 /// A call of the chip.
-#[derive(Clone, Copy, PartialEq, Eq)]
+#[derive(Clone, Copy)]
 pub enum Call {
     /// A byte is written to this register, 0 to 3.
     Write(u8, u8),

@@ -1,7 +1,7 @@
 //! What a control word chooses (8253 data sheet, "Control Word Format").
 
 /// The waveform of a count that is counted again and again.
-#[derive(Clone, Copy, PartialEq, Eq)]
+#[derive(Clone, Copy)]
 pub enum Waveform {
     /// Mode 2, the rate generator: low for the last pulse of each period.
     Rate,

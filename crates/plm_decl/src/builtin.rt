@@ -4,7 +4,7 @@ ghost use Rattle.std.specs.Prelude.{◌≡◌, bytes_eq, find};
 ghost use Rattle.plm_decl.specs.Builtin.{builtin_named, spelling};
 
 /// A built-in procedure.
-#[derive(Clone, Copy, PartialEq, Eq)]
+#[derive(Clone, Copy)]
 pub enum Builtin {
     Length,
     Last,

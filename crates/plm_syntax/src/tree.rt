@@ -1,14 +1,14 @@
 //! The syntax tree of a module.
 
 /// Where a token stands: its number among the module's tokens once literals are replaced, from 0, and its line, from 1.
-#[derive(Clone, Copy, PartialEq, Eq)]
+#[derive(Clone, Copy)]
 pub struct Position {
     pub token: u32,
     pub line: u32,
 }
 
 /// What a scalar's bytes are.
-#[derive(Clone, Copy, PartialEq, Eq)]
+#[derive(Clone, Copy)]
 pub enum Scalar {
     Byte,
     Word,
@@ -19,7 +19,7 @@ pub enum Scalar {
 }
 
 /// An operator before its operand.
-#[derive(Clone, Copy, PartialEq, Eq)]
+#[derive(Clone, Copy)]
 pub enum UnaryOperator {
     Plus,
     Minus,
@@ -27,7 +27,7 @@ pub enum UnaryOperator {
 }
 
 /// An operator between its operands.
-#[derive(Clone, Copy, PartialEq, Eq)]
+#[derive(Clone, Copy)]
 pub enum BinaryOperator {
     Multiply,
     Divide,
@@ -46,7 +46,7 @@ pub enum BinaryOperator {
 }
 
 /// `@X`, the location of X, or `.X`, its offset.
-#[derive(Clone, Copy, PartialEq, Eq)]
+#[derive(Clone, Copy)]
 pub enum LocationForm {
     Pointer,
     Offset,
@@ -223,7 +223,7 @@ pub enum Element<'a> {
 }
 
 /// How a procedure is joined with those of other modules.
-#[derive(Clone, Copy, PartialEq, Eq)]
+#[derive(Clone, Copy)]
 pub enum Linkage {
     None,
     Public,

@@ -4,7 +4,7 @@ use crate::token::Kind;
 use word86::Number;
 
 /// What the text before tells of the piece that follows.
-#[derive(Clone, Copy, PartialEq, Eq)]
+#[derive(Clone, Copy)]
 pub enum ScanState {
     /// It stands in the first column of a line, where a dollar sign begins a control line.
     FirstColumn,
@@ -27,7 +27,7 @@ impl ScanState {
 }
 
 /// What the characters at the front of a text are.
-#[derive(Clone, Copy, PartialEq, Eq)]
+#[derive(Clone, Copy)]
 pub enum Piece {
     /// A blank, a comment or a control line.
     Skipped,
@@ -38,7 +38,7 @@ pub enum Piece {
 }
 
 /// A piece, and how many bytes it has.
-#[derive(Clone, Copy, PartialEq, Eq)]
+#[derive(Clone, Copy)]
 pub struct Front {
     pub piece: Piece,
     pub length: usize,

@@ -14,7 +14,7 @@ use plm_decl::{
 use std::alloc::AllocError;
 
 /// What a text does that matters to interrupt procedures.
-#[derive(Clone, Copy, PartialEq, Eq)]
+#[derive(Clone, Copy)]
 pub enum Effect {
     /// It calls a procedure, by its number.
     Calls(usize),

@@ -11,7 +11,7 @@ pub struct Line {
 }
 
 /// A scalar that lies at a fixed place: a parameter, or an index.
-#[derive(Clone, Copy, PartialEq, Eq)]
+#[derive(Clone, Copy)]
 pub struct Scalar {
     pub width: Width,
     pub place: Place,

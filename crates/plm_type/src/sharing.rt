@@ -15,7 +15,7 @@ use word86::Fault;
 
 /// That a procedure is reached from main and from an interrupt procedure, or from two of these (W1): its module, counted
 /// from 0, and the line of its name, counted from 1.
-#[derive(Clone, Copy, PartialEq, Eq)]
+#[derive(Clone, Copy)]
 pub struct Warning {
     pub module: usize,
     pub line: u32,

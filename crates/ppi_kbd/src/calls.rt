@@ -12,7 +12,7 @@ use crate::ports::Ports;
 use word86::Event;
 
 /// A call of the port map.
-#[derive(Clone, Copy, PartialEq, Eq)]
+#[derive(Clone, Copy)]
 pub enum Call {
     /// A byte is read from this port.
     Read(u16),

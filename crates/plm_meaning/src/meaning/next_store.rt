@@ -15,7 +15,7 @@ use std::alloc::AllocError;
 use word86::{Access, Width};
 
 /// A store into a RAM object.
-#[derive(Clone, Copy, PartialEq, Eq)]
+#[derive(Clone, Copy)]
 pub struct ObjectStore {
     /// The object's number, in order of declaration.
     pub object: usize,
