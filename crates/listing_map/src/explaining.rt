@@ -464,7 +464,9 @@ pub fn explain<'s, 'a>(
     ensures answers { IfOk result (λ e. 0 < length e.help.items) }
 {
     let explainer = Explainer::new(alloc, sources, compiled, fault.number)?;
-    explainer.explain(fault)
+    let explained = explainer.explain(fault);
+    drop(explainer);
+    explained
 }
 
 /// Explains a fault at a line of a schedule, E701 to E703, or of a ROM, E705. Of any other number the sentence says where to read. Want of

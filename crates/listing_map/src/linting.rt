@@ -167,8 +167,9 @@ fn lints_at<'a>(
 fn lints_of<'a>(alloc: Global, sources: &[NamedText<'a>]) -> Result<Vec<Lint<'a>>, Fault> {
     let studied = study(alloc, sources)?;
     let names = names_of(alloc, &studied)?;
-    let all = all_found(alloc, &studied, &names)?;
-    Ok(lints_at(alloc, &studied, &all)?)
+    let found = all_found(alloc, &studied, &names);
+    drop(names);
+    Ok(lints_at(alloc, &studied, &found?)?)
 }
 
 /// The notes of sources, module by module and in the order of their tokens; none where they have a fault of text, grammar or names. Of sources

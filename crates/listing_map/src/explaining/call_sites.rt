@@ -6,7 +6,7 @@ use plm_syntax::Position;
 use plm_type::is_measure;
 
 /// What a text does.
-#[derive(Clone, Copy, PartialEq, Eq)]
+#[derive(Clone, Copy)]
 pub(crate) enum Effect {
     /// It calls a procedure, by its number.
     Calls(usize),
@@ -15,7 +15,7 @@ pub(crate) enum Effect {
 }
 
 /// What a text does, and the token that does it.
-#[derive(Clone, Copy, PartialEq, Eq)]
+#[derive(Clone, Copy)]
 pub(crate) struct Site {
     pub effect: Effect,
     pub place: Position,

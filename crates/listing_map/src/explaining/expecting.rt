@@ -9,7 +9,7 @@ use plm_token::{Keyword, Kind, Mark, Token};
 use std::alloc::{AllocError, Global};
 
 /// Tokens that have a name together.
-#[derive(Clone, Copy, PartialEq, Eq)]
+#[derive(Clone, Copy)]
 enum Family {
     Expression,
     /// An expression's part behind a relation or a sign.

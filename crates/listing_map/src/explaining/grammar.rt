@@ -418,7 +418,7 @@ pub(crate) fn syntax_fault(alloc: Global, source: &Studied<'_>) -> Result<Told, 
 }
 
 /// A fault of the token that the parser names.
-#[derive(Clone, Copy, PartialEq, Eq)]
+#[derive(Clone, Copy)]
 pub(crate) enum TokenFault {
     /// E202
     NestedLiterals,

@@ -74,7 +74,7 @@ pub(crate) fn target_of(target: &Reference) -> Target {
 }
 
 /// Whether what is named may be a part of a variable, as in a location, or has to be a whole scalar.
-#[derive(Clone, Copy, PartialEq, Eq)]
+#[derive(Clone, Copy)]
 enum Extent {
     Whole,
     Part,

@@ -93,19 +93,50 @@ fn open_parentheses(alloc: Global, tokens: &[Token<'_>]) -> Result<Vec<Option<us
     Ok(all)
 }
 
-/// The source with the names that it declares.
-pub(crate) fn with_names<'a>(alloc: Global, source: Studied<'a>) -> Result<Named<'a>, AllocError> {
-    let Declarations { names, counts } = declarations_of(alloc, &source.expanded)?;
-    let entries = entries_of(alloc, &source.expanded, &names)?;
+/// What is known of the tokens of a source.
+#[derive(Drop)]
+struct Known<'a> {
+    entries: Vec<Entry<'a>>,
+    counts: Vec<usize>,
+    open: Vec<Option<usize>>,
+    numbers: BTreeMap<Vec<u8>, Vec<usize>>,
+}
+
+fn known_of<'a>(alloc: Global, tokens: &[Token<'a>]) -> Result<Known<'a>, AllocError> {
+    let Declarations { names, counts } = declarations_of(alloc, tokens)?;
+    let entries = entries_of(alloc, tokens, &names)?;
     let numbers = numbers_of(alloc, &names)?;
-    let open = open_parentheses(alloc, &source.expanded)?;
-    Ok(Named {
-        source,
+    let open = open_parentheses(alloc, tokens)?;
+    Ok(Known {
         entries,
         counts,
         open,
         numbers,
     })
+}
+
+/// The source with the names that it declares.
+pub(crate) fn with_names<'a>(alloc: Global, source: Studied<'a>) -> Result<Named<'a>, AllocError> {
+    match known_of(alloc, &source.expanded) {
+        Ok(
+            Known {
+                entries,
+                counts,
+                open,
+                numbers,
+            },
+        ) => Ok(Named {
+            source,
+            entries,
+            counts,
+            open,
+            numbers,
+        }),
+        Err(refused) => {
+            drop(source);
+            Err(refused)
+        }
+    }
 }
 
 impl<'a> Named<'a> {

@@ -80,22 +80,62 @@ fn faults_of_types(
     in_order(alloc, sources, &mut found)
 }
 
+/// The faults of types, why they come, and what procedures do.
+#[derive(Drop)]
+struct TypesFound {
+    faults: Vec<FaultAt>,
+    reasons: Vec<Reasoned>,
+    calls: Calls,
+}
+
+/// What is known of the types of sources.
+fn types_told(alloc: Global, sources: &[Studied<'_>], names: &Names) -> Result<TypesFound, Fault> {
+    let faults = faults_of_types(alloc, sources, names)?;
+    let reasons = all_reasons(alloc, names)?;
+    let calls = calls_of(alloc, names)?;
+    Ok(TypesFound {
+        faults,
+        reasons,
+        calls,
+    })
+}
+
+/// Sources with these names, gone through to their types.
+fn with_types<'a>(
+    sources: Vec<Studied<'a>>,
+    names: Names,
+    typed: Result<TypesFound, Fault>,
+) -> Result<GoneThrough<'a>, Fault> {
+    match typed {
+        Ok(
+            TypesFound {
+                faults,
+                reasons,
+                calls,
+            },
+        ) => Ok(GoneThrough {
+            work: Work::Types(TypedSources {
+                sources,
+                names,
+                reasons,
+                calls,
+            }),
+            faults,
+        }),
+        Err(fault) => {
+            drop(sources);
+            drop(names);
+            Err(fault)
+        }
+    }
+}
+
 /// Sources gone through to their types (E401 to E406).
 fn through_types<'a>(alloc: Global, texts: &[NamedText<'a>]) -> Result<GoneThrough<'a>, Fault> {
     let sources = study(alloc, texts)?;
     let names = names_of(alloc, &sources)?;
-    let faults = faults_of_types(alloc, &sources, &names)?;
-    let reasons = all_reasons(alloc, &names)?;
-    let calls = calls_of(alloc, &names)?;
-    Ok(GoneThrough {
-        work: Work::Types(TypedSources {
-            sources,
-            names,
-            reasons,
-            calls,
-        }),
-        faults,
-    })
+    let typed = types_told(alloc, &sources, &names);
+    with_types(sources, names, typed)
 }
 
 /// Sources gone through as far as a phase wants it, without its faults.

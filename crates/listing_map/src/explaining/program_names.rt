@@ -9,7 +9,7 @@ use std::alloc::{AllocError, Global};
 use std::collections::BTreeMap;
 
 /// How modules share a name.
-#[derive(Clone, Copy, PartialEq, Eq)]
+#[derive(Clone, Copy)]
 pub(crate) enum Linked {
     Public,
     External,
@@ -26,14 +26,14 @@ impl Linked {
 }
 
 /// A name, by its module and its number there.
-#[derive(Clone, Copy, PartialEq, Eq)]
+#[derive(Clone, Copy)]
 struct Shared {
     module: usize,
     number: usize,
 }
 
 /// A token, by its module and its number there.
-#[derive(Clone, Copy, PartialEq, Eq)]
+#[derive(Clone, Copy)]
 struct TokenOf {
     module: usize,
     number: u32,
@@ -133,13 +133,23 @@ impl<'a> ProgramNames<'a> {
         Ok(())
     }
 
+    /// Notes what other modules may ask of a module.
+    fn note_module(
+        &mut self,
+        alloc: Global,
+        module: usize,
+        named: &Named<'a>,
+    ) -> Result<(), AllocError> {
+        self.note_names(alloc, module, named)?;
+        self.note_handlers(module, &named.source.expanded)
+    }
+
     /// Adds a module, with its names.
     fn add(&mut self, alloc: Global, module: usize, source: Studied<'a>) -> Result<(), AllocError> {
         let named = with_names(alloc, source)?;
-        self.note_names(alloc, module, &named)?;
-        self.note_handlers(module, &named.source.expanded)?;
+        let noted = self.note_module(alloc, module, &named);
         self.modules.push(named)?;
-        Ok(())
+        noted
     }
 
     /// The declared name that modules share.

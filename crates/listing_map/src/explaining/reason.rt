@@ -7,7 +7,7 @@ use plm_syntax::{BinaryOperator, UnaryOperator};
 pub(crate) type Type = Option<ScalarType>;
 
 /// Which fault is looked for.
-#[derive(Clone, Copy, PartialEq, Eq)]
+#[derive(Clone, Copy)]
 pub(crate) enum TypeFault {
     /// E401
     Types,

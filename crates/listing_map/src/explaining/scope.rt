@@ -27,7 +27,7 @@ pub(crate) struct Declarations<'a> {
 }
 
 /// Where in a declaration a token stands.
-#[derive(Clone, Copy, PartialEq, Eq)]
+#[derive(Clone, Copy)]
 enum Stage {
     /// In no declaration.
     Outside,

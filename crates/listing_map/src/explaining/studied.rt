@@ -146,7 +146,10 @@ pub(crate) fn unparsed_among(
     tokens: Vec<Token<'_>>,
 ) -> Result<Option<u32>, AllocError> {
     match parse(alloc, tokens) {
-        Ok(_) => Ok(None),
+        Ok(tree) => {
+            drop(tree);
+            Ok(None)
+        }
         Err(Fault::At(_, number, _)) => Ok(Some(number)),
         Err(Fault::Memory) => Err(AllocError),
     }

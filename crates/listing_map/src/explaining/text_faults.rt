@@ -8,7 +8,7 @@ use std::alloc::Global;
 use word86::Fault;
 
 /// A fault of a text.
-#[derive(Clone, Copy, PartialEq, Eq)]
+#[derive(Clone, Copy)]
 pub(crate) enum TextFault {
     Character,
     OpenString,

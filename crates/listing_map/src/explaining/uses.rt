@@ -3,7 +3,7 @@
 use plm_token::{Keyword, Kind, Mark};
 
 /// What a token is for.
-#[derive(Clone, Copy, PartialEq, Eq)]
+#[derive(Clone, Copy)]
 pub(crate) enum Use {
     /// It begins an operand.
     Operand,
