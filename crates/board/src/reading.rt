@@ -11,7 +11,7 @@ use std::alloc::Global;
 use word86::{Event, Fault, Number};
 
 /// What a line of a schedule says, unless it is blank or a comment.
-#[derive(Clone, Copy, PartialEq, Eq)]
+#[derive(Clone, Copy)]
 pub(crate) enum Item {
     Fill(u8),
     At(u32, Event),

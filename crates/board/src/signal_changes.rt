@@ -13,7 +13,7 @@ use word86::{Event, Label, Width};
 
 /// What is shown: a line of one bit, the vector of acknowledgements, or a port by its number among those that were met; and that an
 /// interrupt was acknowledged, or something passed at a port.
-#[derive(Clone, Copy, PartialEq, Eq)]
+#[derive(Clone, Copy)]
 enum Signal {
     Interrupt,
     Timer,

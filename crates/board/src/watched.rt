@@ -33,7 +33,7 @@ pub struct Watch<'w> {
 }
 
 /// How a watched run ended, and how many turns it made.
-#[derive(Clone, Copy, PartialEq, Eq)]
+#[derive(Clone, Copy)]
 pub struct WatchedEnd {
     /// Whether it came to a stop, or met bytes that are no instruction.
     pub end: End,
