@@ -220,6 +220,7 @@ impl Typer<'_> {
     }
 
     /// An operator between two operands, of which the first begins at the second place.
+    #[inline(never)]
     fn binary(
         &self,
         place: Position,
