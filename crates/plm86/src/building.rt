@@ -22,7 +22,7 @@ use plm_type::{Warning, warnings};
 use std::alloc::{AllocError, Global};
 use std::mem::forget;
 use std::rt::Files;
-use word86::{Sink, WriterSink, put_all};
+use word86::{Sink, WriterSink};
 
 /// A file that is wanted, and its bytes.
 #[derive(Drop)]
@@ -109,20 +109,9 @@ fn write_made<R: Files, S: Sink>(
 ) -> Result<u8, Stop> {
     let mut rom_file = Output::new(rt, teller.alloc, outputs.rom)?;
     let others = other_files(rt, teller, outputs, made)?;
-    show_remarks(teller, made.given, errors)?;
+    teller.show_remarks(made.given, errors)?;
     rom_file.write(rt, teller.alloc, made.rom)?;
     write_all(rt, teller.alloc, others)
-}
-
-// Shows the warnings and notes.
-fn show_remarks<S: Sink>(
-    teller: &Teller<'_, '_>,
-    given: &[Warning],
-    errors: &mut S,
-) -> Result<(), Stop> {
-    let remarks = teller.remarks(given)?;
-    let _ = put_all(errors, &remarks);
-    Ok(())
 }
 
 // Writes the files, one after another.
@@ -218,7 +207,9 @@ fn prepare_half<'a, R: Files>(
 // The code as a listing. Since the program was built, nothing but memory can be wanting; another fault would be told as what it is.
 fn text_of_code(teller: &Teller<'_, '_>, built: &Built) -> Result<Vec<u8>, Stop> {
     let code = teller.or_refusal(lower(teller.alloc, &built.program))?;
-    listed_code(teller, built, &code)
+    let listed = listed_code(teller, built, &code);
+    drop(code);
+    listed
 }
 
 // The code of a program as a listing.

@@ -40,8 +40,13 @@ struct Lowered {
 /// The program of sources and its code, where they come so far.
 fn as_code(alloc: Global, sources: &[Source<'_>]) -> Result<Lowered, Fault> {
     let program = analyse(alloc, sources)?;
-    let code = lower(alloc, &program)?;
-    Ok(Lowered { program, code })
+    match lower(alloc, &program) {
+        Ok(code) => Ok(Lowered { program, code }),
+        Err(fault) => {
+            drop(program);
+            Err(fault)
+        }
+    }
 }
 
 /// Explains that the stack or the ROM has no room.

@@ -28,7 +28,7 @@ use std::alloc::Global;
 use word86::{Event, Fault, Label, Number, PowerOn, Sink, SinkFault};
 
 /// How a run of the meaning ended.
-#[derive(Clone, Copy, PartialEq, Eq)]
+#[derive(Clone, Copy)]
 pub enum MeanEnd {
     /// At the schedule's stop.
     Stopped,

@@ -223,7 +223,14 @@ pub(crate) fn mean_watched<S: Sink>(
     requires { IsPlacement placement.now.offsets.items (placed.sizes_of program.now.names) }
 {
     let mut meaning = Meaning::new(alloc, program, placement, power_on)?;
-    match take_turns(alloc, watching, &mut meaning, schedule, sink) {
+    let taken = take_turns(alloc, watching, &mut meaning, schedule, sink);
+    drop(meaning);
+    ended(taken)
+}
+
+/// How a run has ended, by what its turns came to.
+fn ended(turns: Result<(), Ending>) -> Result<MeanEnd, Fault> {
+    match turns {
         Ok(()) => Ok(MeanEnd::Stopped),
         Err(Ending::Bad(at)) => Ok(MeanEnd::Bad(at.module, at.line)),
         Err(Ending::Memory) => Err(Fault::Memory),

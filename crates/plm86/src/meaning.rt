@@ -4,13 +4,12 @@
 //! is read before the sources and all before a fault is answered, the schedule's first, that warnings come before the trace, and where a Bad
 //! step has its line, is shown by `tests/run`.
 
-use crate::build::Source;
 use crate::built::Built;
 use crate::files::{cut_short, read_file};
 use crate::mean::{CANNOT_WRITE, MeanEnd, mean_run, mean_status};
 use crate::mean_watched::{Meant, Watching, mean_watched, object_meant};
 use crate::order::{Following, Telling};
-use crate::running::{power_on_of, schedule_of};
+use crate::running::schedule_of;
 use crate::sources::{build_sources, read_texts, sources_of};
 use crate::stop::Stop;
 use crate::telling::{ReadFor, Teller};
@@ -21,7 +20,8 @@ use plm_decl::Names;
 use plm_type::warnings;
 use std::alloc::{AllocError, Global};
 use std::io::{BufWriter, Write};
-use word86::{Fault, PowerOn, Sink, WriterSink, put_all};
+use std::mem::forget;
+use word86::{Fault, PowerOn, Sink, WriterSink};
 
 /// `mean [--turns] [--watch NAME] SCHEDULE SOURCE...`: all files are read first, and the schedule's faults come before others. The sources are built for the
 /// largest ROM, so that the objects lie where its image has them; then the warnings and notes are shown, and the meaning is run.
@@ -44,17 +44,50 @@ pub(crate) fn run_meaning<S: Sink>(
         sources: &sources,
         read_for: ReadFor::Build(RomSize::Kib64),
     };
-    let built = build_sources(&teller, RomSize::Kib64)?;
-    let watching = watching_of(alloc, following, built.program.names())?;
-    let power_on = power_on_of(alloc, &schedule)?;
-    let given = teller.or_refusal(warnings(alloc, &built.program))?;
-    // Where they cannot be shown, the trace still tells.
-    let _ = put_all(errors, &teller.remarks(&given)?);
-    let end = trace(rt, alloc, &built, &sources, power_on, &schedule, watching);
+    build_and_mean(rt, &teller, &schedule, following, errors)
+}
+
+// Builds the sources, and runs what they mean.
+fn build_and_mean<S: Sink>(
+    rt: &HostRuntime,
+    teller: &Teller<'_, '_>,
+    schedule: &Schedule,
+    following: Following<'_>,
+    errors: &mut S,
+) -> Result<u8, Stop> {
+    let built = build_sources(teller, RomSize::Kib64)?;
+    let status = mean_built(rt, teller, &built, schedule, following, errors);
+    // The process ends next, which gives this memory back faster than it can be taken apart.
+    forget(built);
+    status
+}
+
+// Shows the warnings and notes, and runs the meaning.
+fn mean_built<S: Sink>(
+    rt: &HostRuntime,
+    teller: &Teller<'_, '_>,
+    built: &Built,
+    schedule: &Schedule,
+    following: Following<'_>,
+    errors: &mut S,
+) -> Result<u8, Stop> {
+    let watching = watching_of(teller.alloc, following, built.program.names())?;
+    show_warnings(teller, built, errors)?;
+    let end = trace(rt, teller, built, schedule, watching);
     match end {
         Err(fault) => Err(cut_short(fault)),
         Ok(_) => Ok(mean_status(&end)),
     }
+}
+
+// Shows the warnings and notes of a program.
+fn show_warnings<S: Sink>(
+    teller: &Teller<'_, '_>,
+    built: &Built,
+    errors: &mut S,
+) -> Result<(), Stop> {
+    let given = teller.or_refusal(warnings(teller.alloc, &built.program))?;
+    Ok(teller.show_remarks(&given, errors)?)
 }
 
 // What is watched, where the program has it.
@@ -104,13 +137,13 @@ fn several_words(
 fn run_as_wanted<S: Sink>(
     alloc: Global,
     built: &Built,
-    power_on: PowerOn,
     schedule: &Schedule,
     watching: Watching<'_>,
     sink: &mut S,
 ) -> Result<MeanEnd, Fault> {
     let program = &built.program;
     let placement = &built.image.placement;
+    let power_on = PowerOn::filled(alloc, schedule.fill())?;
     if watching.turns || watching.object.is_some() {
         return mean_watched(
             alloc, program, placement, power_on, schedule, watching, sink,
@@ -122,19 +155,18 @@ fn run_as_wanted<S: Sink>(
 // Runs the meaning and writes the trace to standard output.
 fn trace(
     rt: &HostRuntime,
-    alloc: Global,
+    teller: &Teller<'_, '_>,
     built: &Built,
-    sources: &[Source<'_>],
-    power_on: PowerOn,
     schedule: &Schedule,
     watching: Watching<'_>,
 ) -> Result<MeanEnd, Fault> {
+    let alloc = teller.alloc;
     let Ok(mut output) = BufWriter::new(alloc, rt.stdout()) else {
         return Err(Fault::Memory);
     };
     let mut sink = WriterSink::new(&mut output);
-    let end = run_as_wanted(alloc, built, power_on, schedule, watching, &mut sink)?;
-    put_bad(end, sources, &mut sink)?;
+    let end = run_as_wanted(alloc, built, schedule, watching, &mut sink)?;
+    put_bad(teller, end, &mut sink)?;
     match output.flush() {
         Ok(()) => Ok(end),
         Err(_) => Err(CANNOT_WRITE),
@@ -142,15 +174,11 @@ fn trace(
 }
 
 // Where the run came to a Bad step, its line.
-fn put_bad<S: Sink>(end: MeanEnd, sources: &[Source<'_>], sink: &mut S) -> Result<(), Fault> {
+fn put_bad<S: Sink>(teller: &Teller<'_, '_>, end: MeanEnd, sink: &mut S) -> Result<(), Fault> {
     let MeanEnd::Bad(module, line) = end else {
         return Ok(());
     };
-    let name = match sources.get(module) {
-        Some(source) => source.name,
-        None => "",
-    };
-    match put_bad_line(name, line, sink) {
+    match put_bad_line(teller.name(module), line, sink) {
         Ok(()) => Ok(()),
         Err(_) => Err(CANNOT_WRITE),
     }

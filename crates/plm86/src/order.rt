@@ -7,7 +7,7 @@ use layout_link::RomSize;
 use std::alloc::{AllocError, AllocFailed};
 
 /// How messages are written on standard error.
-#[derive(Clone, Copy, PartialEq, Eq)]
+#[derive(Clone, Copy)]
 pub enum MessageFormat {
     /// Lines for people.
     Text,

@@ -21,7 +21,7 @@ pub(crate) struct Outputs<'a> {
 }
 
 /// What a build or a run wants of a file.
-#[derive(Clone, Copy, PartialEq, Eq)]
+#[derive(Clone, Copy)]
 pub(crate) enum Purpose {
     Rom,
     Listing,

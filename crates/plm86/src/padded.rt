@@ -10,6 +10,7 @@ use board::address_of;
 use layout_link::{StartUpRoom, start_up_room};
 use listing_map::padded_rom;
 use lower::lower;
+use plm_type::Program;
 use select::{Part, select};
 use std::alloc::Global;
 use word86::Fault;
@@ -47,10 +48,17 @@ fn taken(parts: &[Part], start_up: StartUpRoom) -> usize {
     taken
 }
 
+/// The parts of a program's ROM.
+fn parts_of(alloc: Global, program: &Program) -> Result<Vec<Part>, Fault> {
+    let code = lower(alloc, program)?;
+    let parts = select(alloc, &code);
+    drop(code);
+    parts
+}
+
 /// The ROM with this byte where it is free.
 fn padded(alloc: Global, built: &Built, byte: u8) -> Result<Vec<u8>, Fault> {
-    let code = lower(alloc, &built.program)?;
-    let parts = select(alloc, &code)?;
+    let parts = parts_of(alloc, &built.program)?;
     let start_up = start_up_room(alloc, &parts, built.program.names())?;
     Ok(padded_rom(alloc, &built.image.rom, taken(&parts, start_up), byte)?)
 }

@@ -209,7 +209,7 @@ fn refusal_in(
 }
 
 /// The memory that a schedule fills when the power comes on.
-pub(crate) fn power_on_of(alloc: Global, schedule: &Schedule) -> Result<PowerOn, Stop> {
+fn power_on_of(alloc: Global, schedule: &Schedule) -> Result<PowerOn, Stop> {
     match PowerOn::filled(alloc, schedule.fill()) {
         Ok(power_on) => Ok(power_on),
         Err(_) => Err(Stop::Memory),
@@ -228,17 +228,26 @@ fn part_of_death(alloc: Global, run: Run<'_>, schedule: &Schedule) -> Result<u32
     ensures { IfOk result (λ n. n ≤ schedule.now.stop) }
 {
     let mut board = board_of(alloc, run, schedule)?;
+    let turn = first_part_of_death(&mut board, schedule);
+    drop(board);
+    Ok(turn)
+}
+
+/// The same of a board that is at its reset.
+fn first_part_of_death(board: &mut Board, schedule: &Schedule) -> u32
+    ensures { result ≤ schedule.now.stop }
+{
     let length = part_length(schedule.stop());
     let mut turn = 0;
     while turn < schedule.stop() {
         let next = turn + length.min(schedule.stop() - turn);
         let _end = board.run_part(schedule, turn, next, &mut WriterSink::new(sink()));
         if board.is_dead() {
-            return Ok(turn);
+            return turn;
         }
         turn = next;
     }
-    Ok(turn)
+    turn
 }
 
 /// The turn from which on the processor halts with interrupts off. The run is made once more, and then again up to the part in which that is.
@@ -246,7 +255,9 @@ fn turn_of_death(alloc: Global, run: Run<'_>, schedule: &Schedule) -> Result<u32
     let from = part_of_death(alloc, run, schedule)?;
     let mut board = board_of(alloc, run, schedule)?;
     let _end = board.run_part(schedule, 0, from, &mut WriterSink::new(sink()));
-    Ok(board.turn_of_death(schedule, from))
+    let turn = board.turn_of_death(schedule, from);
+    drop(board);
+    Ok(turn)
 }
 
 /// Says on standard error at which turn the processor halted with interrupts off, where it did and faults are explained.
@@ -426,8 +437,24 @@ fn run_schedule<S: Sink>(
     errors: &mut S,
 ) -> Result<u8, Stop> {
     let mut files = wanted_files(rt, alloc, wanted.showing)?;
-    let mut board = board_of(alloc, run, schedule)?;
-    run_board(rt, run, &mut board, schedule, wanted, &mut files, errors)
+    let ran = run_anew(rt, run, schedule, wanted, &mut files, errors);
+    drop(files);
+    ran
+}
+
+/// Runs a board with the ROM, and writes what is shown beside the trace.
+fn run_anew<S: Sink>(
+    rt: &HostRuntime,
+    run: Run<'_>,
+    schedule: &Schedule,
+    wanted: Wanted<'_, '_>,
+    files: &mut WantedFiles<'_>,
+    errors: &mut S,
+) -> Result<u8, Stop> {
+    let mut board = board_of(rt.alloc(), run, schedule)?;
+    let ran = run_board(rt, run, &mut board, schedule, wanted, files, errors);
+    drop(board);
+    ran
 }
 
 /// Refuses a run by which a file would be lost.

@@ -11,7 +11,7 @@ use listing_map::{
 };
 use plm_type::Warning;
 use std::alloc::{AllocError, Global};
-use word86::{Fault, Number, WriterSink};
+use word86::{Fault, Number, Sink, WriterSink, put_all};
 
 /// What files are read for.
 #[derive(Clone, Copy)]
@@ -32,7 +32,8 @@ pub(crate) struct Teller<'s, 'a> {
 }
 
 impl<'s, 'a> Teller<'s, 'a> {
-    fn name(&self, module: usize) -> &'a str {
+    /// The name of the file of this number.
+    pub fn name(&self, module: usize) -> &'a str {
         match self.sources.get(module) {
             Some(source) => source.name,
             None => "",
@@ -357,12 +358,23 @@ impl<'s, 'a> Teller<'s, 'a> {
     }
 
     /// The warnings and notes of a program, as they are shown.
-    pub fn remarks(&self, given: &[Warning]) -> Result<Vec<u8>, AllocError> {
+    fn remarks(&self, given: &[Warning]) -> Result<Vec<u8>, AllocError> {
         let mut text = Vec::new(self.alloc);
         self.put_warnings(given, &mut text)?;
         self.put_notes(&mut text)?;
         self.put_wanted_lints(&mut text)?;
         Ok(text)
+    }
+
+    /// Shows the warnings and notes of a program. Where they cannot be shown, what is written still tells.
+    pub fn show_remarks<S: Sink>(
+        &self,
+        given: &[Warning],
+        errors: &mut S,
+    ) -> Result<(), AllocError> {
+        let remarks = self.remarks(given)?;
+        let _ = put_all(errors, &remarks);
+        Ok(())
     }
 }
 

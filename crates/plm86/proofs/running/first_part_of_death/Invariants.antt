@@ -1,5 +1,5 @@
 use Rattle.std.specs.Prelude.{ℕ, ◌-◌, ◌≤◌}
-use Rattle.plm86.proofs.running.part_of_death.Given as goal
+use Rattle.plm86.proofs.running.first_part_of_death.Given as goal
 
 abbrev pub invariant-loop-turn : goal.invariant-loop-turn
 invariant-loop-turn l = l.turn ≤ l.schedule.stop
