@@ -3,8 +3,6 @@
 #![tactic(auto)]
 
 #[cfg(test)]
-mod board_runs;
-#[cfg(test)]
 mod codec;
 #[cfg(test)]
 mod declared_names;
@@ -18,8 +16,6 @@ mod in_place;
 mod interrupt_controller;
 #[cfg(test)]
 mod linking;
-#[cfg(test)]
-mod listing;
 #[cfg(test)]
 mod literals;
 #[cfg(test)]
@@ -35,8 +31,6 @@ mod ports;
 #[cfg(test)]
 mod processor;
 #[cfg(test)]
-mod schedules;
-#[cfg(test)]
 mod selection;
 #[cfg(test)]
 mod sources;
@@ -44,8 +38,6 @@ mod sources;
 mod timer;
 #[cfg(test)]
 mod tokens;
-#[cfg(test)]
-mod trace_lines;
 #[cfg(test)]
 mod typed_trees;
 #[cfg(test)]
