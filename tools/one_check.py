@@ -6,8 +6,8 @@ So one check serves twice: it is the proof, and the rounds of the crate's edits 
 nothing all the same: the folder is removed before it begins, and nothing else writes there. The prover's last
 line then has the word incremental=trusted, which says that its verdict trusts whoever can write to that folder. That word, and no
 other, is let through beside those that `rt ci` lets through. Such a library is built whole, and not by its statements alone, which the kit
-has for no check that keeps its work. A program is compiled over what its check kept, which the compilers' runs of the prover look through again.
-Where a program's check keeps nothing both compilers compile it side by side, and one line says when it can be run.
+has for no check that keeps its work. A program is compiled over what its check kept, which the compilers' runs of the prover look through again;
+one line says that its edits can be tried meanwhile. Both compilers compile a program side by side, and one line says when it can be run.
 All other crates are proved as `rt ci` does, which takes less time, and their libraries hold their statements alone. These get their stamp, so that
 `rt check` takes them as they are: in a room they lie over the very libraries that they were built over.
 
@@ -49,7 +49,10 @@ A_LINE, A_JOB = 0.1, 0.15
 # Seconds of a task for which no memory is kept.
 SHORT = 60
 # By how much checks give way to the one that leads, where the chain behind them is near the longest, and where it is less than this part of it: what Linux calls their niceness.
-NEAR_GIVES, FAR_GIVES, FAR = 3, 8, 0.65
+# With 8 for what is far plm_meaning kept plm86 waiting, which nothing else did.
+NEAR_GIVES, FAR_GIVES, FAR = 3, 5, 0.65
+# How many jobs a check has at most that does not lead: three of acceptance's tests took half as much again as one, and plm86 beside them waited for a processor.
+OF_OTHERS = 2
 # The parts of the kit's crates that are called or changed here, and what they take.
 FORMS = {
     "build_rlib": ("self", "flags", "anew"),
@@ -159,7 +162,7 @@ def leads(name, threads):
 
 def in_lanes(rt, tasks):
     """Runs the tasks of rt ci side by side, as its own in_lanes does, and returns what each gave. A task is what it waits for, its lines, its memory, and a
-    call with what was given and how many jobs it may use. Longest chain first; what leads gets three of four processors, and all share the rest by their work. On two
+    call with what was given and how many jobs it may use. Longest chain first; what leads gets three of four processors, and the others share the rest by their work. On two
     processors two run at a time, each with one job, but what leads with two where the others would not keep the second processor busy."""
     known = costs.known()
     seconds = {key: known[key][0] if key in known else A_LINE * tasks[key][1] for key in tasks}
@@ -183,7 +186,7 @@ def in_lanes(rt, tasks):
                 room = memory - sum(held for _, held, _ in running.values())
                 if idle > 0 and (not running or needs <= room):
                     share = round(idle * seconds[key] / max(1, sum(seconds[it] for it in ready[at:])))
-                    wanted = max(share, of_leader) if key == leader else share
+                    wanted = of_leader if key == leader else min(share, OF_OTHERS)
                     spare = room - max((tasks[it][2] for it in ready[at + 1 :] if seconds[it] > SHORT), default=0)
                     undone = {it: tasks[it] for it in tasks if it not in given}
                     is_spread = not are_few or key == leader and beside(undone, seconds, key) < seconds[key]
@@ -196,6 +199,14 @@ def in_lanes(rt, tasks):
             for it in wait(running, return_when=FIRST_COMPLETED).done:
                 given[running.pop(it)[0]] = it.result()
     return given
+
+
+def linked(folder, kept_work, to):
+    """Makes a further copy of kept work in a crate's folder, and returns its name. Its modules are links, as the prover writes each under another name first; what else there is, its lock, is not."""
+    shutil.rmtree(f"{folder}/{to}", ignore_errors=True)
+    copy = lambda given, made: os.link(given, made) if given.endswith(".oantt") else shutil.copy2(given, made)
+    shutil.copytree(f"{folder}/{kept_work}", f"{folder}/{to}", copy_function=copy)
+    return to
 
 
 def change(rt, kept):
@@ -230,27 +241,35 @@ def change(rt, kept):
                 print(f"one_check: {self.name} is built\n", end="", flush=True)
             return status
 
-        def compile_by(self, backend, words, to):
-            """Compiles a program by both compilers side by side where rt ci asks for the first, which it does first."""
-            if backend == "rattle":
-                return self.of_rattle
+        def by_both(self, of_llvm, of_rattle, to):
+            """Compiles a program side by side by both compilers, each with its words. What the second came to is kept."""
             with ThreadPoolExecutor(1) as own:
-                of_rattle = own.submit(super().compile_by, "rattle", words, to)
-                status = self.by_llvm(words, to)
-                self.of_rattle = of_rattle.result()
+                begun = own.submit(super().compile_by, "rattle", of_rattle, to)
+                status = self.by_llvm(of_llvm, to)
+                self.came_to = begun.result()
             return status
+
+        def compile_by(self, backend, words, to):
+            """Compiles a program by both compilers where rt ci asks for the first, which it does first."""
+            return self.came_to if backend == "rattle" else self.by_both(words, words, to)
+
+        def over(self, flags, kept_work):
+            """Returns the words of a command over this kept work."""
+            return self.words([*flags, "--incremental", kept_work], keeps=False)
 
         def ci(self, flags, tests):
             if tests or not self.is_program or self.name not in kept:
                 return super().ci(flags, tests)
             if not self.empty():
                 return 1
-            words = self.words([*flags, "--incremental", KEPT], keeps=False)
-            status = self.prove(["check", *words])
-            words = [*words, "--toolchain", f"{rt.KIT}/toolchain"]
-            to = f"out/{self.name}"
-            # (one after the other: both go by what is kept)
-            return status or self.by_llvm(words, to) or super().compile_by("rattle", words, to)
+            status = self.prove(["check", *self.over(flags, KEPT)])
+            if status:
+                return status
+            # (each compiler has what was kept for itself, and so have the edits, which need not wait for the compilers)
+            of_each = [linked(self.folder, KEPT, f"{KEPT}-{it}") for it in ("llvm", "rattle")]
+            print(f"one_check: {self.name} is checked\n", end="", flush=True)
+            toolchain = ["--toolchain", f"{rt.KIT}/toolchain"]
+            return self.by_both(*([*self.over(flags, it), *toolchain] for it in of_each), f"out/{self.name}") or self.came_to
 
     rt.Crate = Keeping
     pattern = rt.rtlib.VERDICT
