@@ -16,7 +16,7 @@ lines, which is twice as much for the crates on top, so that these waited for on
 others behind it gets three quarters of the processors, where `rt ci` shares them alike among all that may begin: plm_syntax, on
 which most others wait, got one. It leaves memory for the next one: where acceptance's tests took all, plm86 waited for their end.
 A check begins and ends with a minute or two in one process, and in between its jobs wait for one another: so half as many jobs more than
-there are processors may run, and all give way to the check that leads.
+there are processors may run, and all give way to the check that leads: those less whose chain is near its own, or comes to be as others end.
 
 Several jobs of a check take more than one in all, of plm_token a third to a half. So on two processors each check has one job, but for the one with the longest
 chain behind it where what else there is to do takes less time than it does: else a processor would wait for it.
@@ -49,8 +49,7 @@ A_LINE, A_JOB = 0.1, 0.15
 # Seconds of a task for which no memory is kept.
 SHORT = 60
 # By how much checks give way to the one that leads, where the chain behind them is near the longest, and where it is less than this part of it: what Linux calls their niceness.
-# With 8 for what is far plm_meaning kept plm86 waiting, which nothing else did.
-NEAR_GIVES, FAR_GIVES, FAR = 3, 5, 0.65
+NEAR_GIVES, FAR_GIVES, FAR = 3, 8, 0.65
 # How many jobs a check has at most that does not lead: three of acceptance's tests took half as much again as one, and plm86 beside them waited for a processor.
 OF_OTHERS = 2
 # The parts of the kit's crates that are called or changed here, and what they take.
@@ -147,8 +146,8 @@ def giving_way(call, by, threads):
     return in_its_own_thread
 
 
-def leads(name, threads):
-    """Has these threads, and what they have started in the folder of the crate of this name, give way no longer."""
+def gives_way_by(by, name, threads):
+    """Has these threads, and what they have started in the folder of the crate of this name, give way by so much, which is less than they did."""
     folder, found = f"{os.getcwd()}/crates/{name}", [*threads]
     for process in filter(str.isdigit, os.listdir("/proc")):
         with contextlib.suppress(OSError):
@@ -157,7 +156,7 @@ def leads(name, threads):
     for it in found:
         # (one may have ended by now)
         with contextlib.suppress(OSError):
-            os.setpriority(os.PRIO_PROCESS, it, 0)
+            os.setpriority(os.PRIO_PROCESS, it, by)
 
 
 def in_lanes(rt, tasks):
@@ -171,14 +170,15 @@ def in_lanes(rt, tasks):
     are_few = processors < 3
     of_leader, lanes = math.ceil(0.75 * processors), processors + processors // 2
     left, running, given = sorted(tasks, key=lambda it: -behind[it]), {}, {}
-    threads = {}
+    threads, niceness = {}, {}
     # (13f ends what it began where it is itself ended; 13b has no such word)
     ending = getattr(rt, "ending", contextlib.nullcontext)
     with ending(), ThreadPoolExecutor(lanes) as pool:
         while left or running:
             leader = max([*left, *(key for key, _, _ in running.values())], key=lambda it: behind[it])
-            if leader in threads:
-                leads(leader[0], threads.pop(leader))
+            for key in [it for it in threads if gives_way(behind[it], behind[leader]) < niceness[it]]:
+                niceness[key] = gives_way(behind[key], behind[leader])
+                gives_way_by(niceness[key], key[0], threads[key])
             ready = [it for it in left if all(below in given for below in tasks[it][0])]
             for at, key in enumerate(ready):
                 _, _, needs, call = tasks[key]
@@ -186,18 +186,20 @@ def in_lanes(rt, tasks):
                 room = memory - sum(held for _, held, _ in running.values())
                 if idle > 0 and (not running or needs <= room):
                     share = round(idle * seconds[key] / max(1, sum(seconds[it] for it in ready[at:])))
-                    wanted = of_leader if key == leader else min(share, OF_OTHERS)
+                    wanted = max(share, of_leader) if key == leader else min(share, OF_OTHERS)
                     spare = room - max((tasks[it][2] for it in ready[at + 1 :] if seconds[it] > SHORT), default=0)
                     undone = {it: tasks[it] for it in tasks if it not in given}
                     is_spread = not are_few or key == leader and beside(undone, seconds, key) < seconds[key]
                     most = min(4, processors) if is_spread else 1
                     jobs = max(1, min(most, idle, wanted, jobs_within(spare, needs)))
                     left.remove(key)
-                    by = gives_way(behind[key], behind[leader])
-                    begun = pool.submit(giving_way(call, by, threads.setdefault(key, [])) if by else call, given, jobs)
+                    niceness[key] = gives_way(behind[key], behind[leader])
+                    begun = pool.submit(giving_way(call, niceness[key], threads.setdefault(key, [])) if niceness[key] else call, given, jobs)
                     running[begun] = key, held_by(needs, jobs), jobs
             for it in wait(running, return_when=FIRST_COMPLETED).done:
-                given[running.pop(it)[0]] = it.result()
+                key, _, _ = running.pop(it)
+                threads.pop(key, None)
+                given[key] = it.result()
     return given
 
 
