@@ -50,7 +50,7 @@ A_LINE, A_JOB = 0.1, 0.15
 SHORT = 60
 # By how much checks give way to the one that leads, where the chain behind them is near the longest, and where it is less than this part of it: what Linux calls their niceness.
 NEAR_GIVES, FAR_GIVES, FAR = 3, 8, 0.65
-# How many jobs a check has at most that does not lead: three of acceptance's tests took half as much again as one, and plm86 beside them waited for a processor.
+# How many jobs a check has at most that does not lead, so that acceptance's tests leave plm86 a processor. That two take less in all than three was not seen.
 OF_OTHERS = 2
 # The parts of the kit's crates that are called or changed here, and what they take.
 FORMS = {
@@ -206,7 +206,10 @@ def in_lanes(rt, tasks):
 def linked(folder, kept_work, to):
     """Makes a further copy of kept work in a crate's folder, and returns its name. Its modules are links, as the prover writes each under another name first; what else there is, its lock, is not."""
     shutil.rmtree(f"{folder}/{to}", ignore_errors=True)
-    copy = lambda given, made: os.link(given, made) if given.endswith(".oantt") else shutil.copy2(given, made)
+
+    def copy(given, made):
+        return os.link(given, made) if given.endswith(".oantt") else shutil.copy2(given, made)
+
     shutil.copytree(f"{folder}/{kept_work}", f"{folder}/{to}", copy_function=copy)
     return to
 
