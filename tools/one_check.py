@@ -1,5 +1,5 @@
 #!/usr/bin/env python3
-"""Runs the kit's `rt ci` with two changes.
+"""Runs the kit's `rt ci` with three changes.
 
 The check that proves a crate whose must-fail edits are tried keeps its work, in the crate's out/incremental.
 So one check serves twice: it is the proof, and the rounds of the crate's edits begin with what it kept. The proof is from
@@ -11,6 +11,8 @@ one line says that its edits can be tried meanwhile. Both compilers compile a pr
 All other crates are proved as `rt ci` does, which takes less time, and their libraries hold their statements alone. These get their stamp, so that
 `rt check` takes them as they are: in a room they lie over the very libraries that they were built over.
 
+The tests of crates behind the word `--` are neither proved nor run: that they are proved rests on a record (tools/record.py), and who calls this runs them.
+
 And its plan, which goes by tools/costs. How much memory a check takes is what was measured, and a tenth more: `rt ci` reckons it by
 lines, which is twice as much for the crates on top, so that these waited for one another. And the check with the longest chain of
 others behind it gets three quarters of the processors, where `rt ci` shares them alike among all that may begin: plm_syntax, on
@@ -21,7 +23,7 @@ there are processors may run, and all give way to the check that leads: those le
 Several jobs of a check take more than one in all, of plm_token a third to a half. So on two processors each check has one job, but for the one with the longest
 chain behind it where what else there is to do takes less time than it does: else a processor would wait for it.
 
-usage: tools/one_check.py [NAME..]      at the top of a repository, with the crates whose work is kept; status and output are those of rt ci
+usage: tools/one_check.py [NAME..] [-- NAME..]      at the top of a repository, with the crates whose work is kept, and those whose tests are left out; status and output are those of rt ci
 """
 
 import contextlib
@@ -87,15 +89,15 @@ def is_known(rt):
     is_formed = all(takes.get(name, ())[: len(form)] == form for name, form in FORMS.items())
     plans = getattr(getattr(rt, "in_lanes", None), "__code__", None)
     has_lanes = plans is not None and plans.co_varnames[: plans.co_argcount] == ("tasks",)
-    has_words = all(hasattr(rt, it) for it in WORDS) and all(hasattr(crate, it) for it in ("cuts_libraries", "stamp"))
+    has_words = all(hasattr(rt, it) for it in WORDS) and all(hasattr(crate, it) for it in ("cuts_libraries", "has_tests", "stamp"))
     return is_formed and pattern.endswith(ENDING) and has_lanes and has_words
 
 
-def plan_as_measured(rt):
+def plan_as_measured(rt, untested):
     """Has rt ci plan by the memory that each crate's check was seen to take."""
     reckoned, most = rt.need, {}
     for (crate, task), (_, held) in costs.known().items():
-        if task in ("proof", "tests"):
+        if task == "proof" or task == "tests" and crate not in untested:
             most[crate] = max(held, most.get(crate, 0))
     rt.need = lambda crate: 1.1 * most[crate.name] if crate.name in most else reckoned(crate)
     rt.in_lanes = lambda tasks: in_lanes(rt, tasks)
@@ -164,7 +166,8 @@ def in_lanes(rt, tasks):
     call with what was given and how many jobs it may use. Longest chain first; what leads gets three of four processors, and the others share the rest by their work. On two
     processors two run at a time, each with one job, but what leads with two where the others would not keep the second processor busy."""
     known = costs.known()
-    seconds = {key: known[key][0] if key in known else A_LINE * tasks[key][1] for key in tasks}
+    # (a task of no lines is one of tests that there are none of)
+    seconds = {key: known[key][0] if key in known and tasks[key][1] else A_LINE * tasks[key][1] for key in tasks}
     memory, behind = 0.85 * rt.free(), chains(tasks, seconds)
     processors = rt.processors()
     are_few = processors < 3
@@ -214,11 +217,14 @@ def linked(folder, kept_work, to):
     return to
 
 
-def change(rt, kept):
-    """Has the checks of these crates keep their work, and lets their word through."""
+def change(rt, kept, untested=()):
+    """Has the checks of the kept crates keep their work, lets their word through, and leaves the tests of the others out."""
 
     class Keeping(rt.Crate):
-        """A crate of rt ci, whose check keeps its work if it is one of these."""
+        """A crate of rt ci, whose check keeps its work, and whose tests are left out, if it is one of these."""
+
+        def has_tests(self):
+            return self.name not in untested and super().has_tests()
 
         def empty(self):
             """Removes what is kept, and returns whether it is gone. (rt ci tries a check that was killed once more.)"""
@@ -286,8 +292,10 @@ def main():
     if not is_known(rt):
         print("one_check: this kit's rt is not known here: run rt ci", file=sys.stderr)
         return 2
-    change(rt, sys.argv[1:])
-    plan_as_measured(rt)
+    words = sys.argv[1:]
+    end = words.index("--") if "--" in words else len(words)
+    change(rt, words[:end], words[end + 1 :])
+    plan_as_measured(rt, words[end + 1 :])
     # (an rt that keeps what it proved is told to prove all: what it kept of earlier runs would leave no work for the edits)
     takes = rt.ci.__code__.co_varnames[: rt.ci.__code__.co_argcount]
     return rt.where_disk_lasts(rt.ci, True) if "anew" in takes else rt.ci()

@@ -11,7 +11,7 @@ import time
 from concurrent.futures import FIRST_COMPLETED, ThreadPoolExecutor, wait
 
 import kit
-from must_fail import Room, Rounds, edits_in, text_of
+from must_fail import PARTS, Room, Rounds, edits_in, text_of
 
 
 class Repository:
@@ -38,6 +38,12 @@ class Repository:
 
     def has_crates_above(self, name):
         return any(name in deps for deps in self.deps.values())
+
+    def has_tests(self, name):
+        return any(re.search(r"#\s*\[[^]]*\btest\b", text_of(it)) for it in self.files(name, ".rt"))
+
+    def files(self, name, ending):
+        return [f"{at}/{it}" for part in PARTS for at, _, names in os.walk(f"{self.folder(name)}/{part}") for it in names if it.endswith(ending)]
 
     def edits(self, name):
         return [it for it in edits_in(self.folder(name)) if f"{name}/{os.path.basename(it)}" not in self.spared]
