@@ -8,6 +8,7 @@ line then has the word incremental=trusted, which says that its verdict trusts w
 other, is let through beside those that `rt ci` lets through. Such a library is built whole, and not by its statements alone, which the kit
 has for no check that keeps its work. A program is compiled over what its check kept, which the compilers' runs of the prover look through again;
 one line says that its edits can be tried meanwhile. Both compilers compile a program side by side, and one line says when it can be run.
+One more says when its check begins: a program stands on all others, so that few checks are left, and processors are idle now and then.
 All other crates are proved as `rt ci` does, which takes less time, and their libraries hold their statements alone. These get their stamp, so that
 `rt check` takes them as they are: in a room they lie over the very libraries that they were built over.
 
@@ -21,7 +22,8 @@ A check begins and ends with a minute or two in one process, and in between its 
 there are processors may run, and all give way to the check that leads: those less whose chain is near its own, or comes to be as others end.
 
 Several jobs of a check take more than one in all, of plm_token a third to a half. So on two processors each check has one job, but for the one with the longest
-chain behind it where what else there is to do takes less time than it does: else a processor would wait for it.
+chain behind it where what else there is to do takes less time than it does: else a processor would wait for it. Of what is begun only what it has
+still to go counts: where it counted whole, board had one job beside the last of plm_meaning, and one processor nothing to do for five minutes.
 
 usage: tools/one_check.py [NAME..] [-- NAME..]      at the top of a repository, with the crates whose work is kept, and those whose tests are left out; status and output are those of rt ci
 """
@@ -48,6 +50,8 @@ KEPT = "out/incremental"
 # that keeps all that it made. With several it is one that has read the libraries, and one for each job, which begins anew now and then: acceptance's
 # tests held 9.6 GB with one job, and no more with two over the two thirds of them that were seen.
 A_LINE, A_JOB = 0.1, 0.15
+# How many seconds a check takes beside others for each that tools/costs has.
+COMPANY = 1.3
 # Seconds of a task for which no memory is kept.
 SHORT = 60
 # By how much checks give way to the one that leads, where the chain behind them is near the longest, and where it is less than this part of it: what Linux calls their niceness.
@@ -161,6 +165,24 @@ def gives_way_by(by, name, threads):
             os.setpriority(os.PRIO_PROCESS, it, by)
 
 
+def taken(name):
+    """Returns the processor seconds that what runs in the folder of the crate of this name has taken so far, with what it has waited for."""
+    folder, ticks = f"{os.getcwd()}/crates/{name}", 0
+    for process in filter(str.isdigit, os.listdir("/proc")):
+        # (one may have ended by now)
+        with contextlib.suppress(OSError):
+            if os.readlink(f"/proc/{process}/cwd") == folder:
+                with open(f"/proc/{process}/stat", encoding="utf-8", errors="replace") as it:
+                    # (behind the name, in parentheses, the twelfth word and the three after it are times)
+                    ticks += sum(map(int, it.read().rpartition(")")[2].split()[11:15]))
+    return ticks / os.sysconf("SC_CLK_TCK")
+
+
+def to_go(seconds, begun):
+    """Returns how long tasks still take that take so long from nothing, where these are begun."""
+    return seconds | {key: max(0, seconds[key] - taken(key[0]) / COMPANY) for key in begun}
+
+
 def in_lanes(rt, tasks):
     """Runs the tasks of rt ci side by side, as its own in_lanes does, and returns what each gave. A task is what it waits for, its lines, its memory, and a
     call with what was given and how many jobs it may use. Longest chain first; what leads gets three of four processors, and the others share the rest by their work. On two
@@ -178,9 +200,12 @@ def in_lanes(rt, tasks):
     ending = getattr(rt, "ending", contextlib.nullcontext)
     with ending(), ThreadPoolExecutor(lanes) as pool:
         while left or running:
-            leader = max([*left, *(key for key, _, _ in running.values())], key=lambda it: behind[it])
-            for key in [it for it in threads if gives_way(behind[it], behind[leader]) < niceness[it]]:
-                niceness[key] = gives_way(behind[key], behind[leader])
+            begun = [key for key, _, _ in running.values()]
+            still = to_go(seconds, begun)
+            ahead = {it: behind[it] - seconds[it] + still[it] for it in [*left, *begun]}
+            leader = max(ahead, key=ahead.get)
+            for key in [it for it in threads if gives_way(ahead[it], ahead[leader]) < niceness[it]]:
+                niceness[key] = gives_way(ahead[key], ahead[leader])
                 gives_way_by(niceness[key], key[0], threads[key])
             ready = [it for it in left if all(below in given for below in tasks[it][0])]
             for at, key in enumerate(ready):
@@ -192,13 +217,13 @@ def in_lanes(rt, tasks):
                     wanted = max(share, of_leader) if key == leader else min(share, OF_OTHERS)
                     spare = room - max((tasks[it][2] for it in ready[at + 1 :] if seconds[it] > SHORT), default=0)
                     undone = {it: tasks[it] for it in tasks if it not in given}
-                    is_spread = not are_few or key == leader and beside(undone, seconds, key) < seconds[key]
+                    is_spread = not are_few or key == leader and beside(undone, still, key) < seconds[key]
                     most = min(4, processors) if is_spread else 1
                     jobs = max(1, min(most, idle, wanted, jobs_within(spare, needs)))
                     left.remove(key)
-                    niceness[key] = gives_way(behind[key], behind[leader])
-                    begun = pool.submit(giving_way(call, niceness[key], threads.setdefault(key, [])) if niceness[key] else call, given, jobs)
-                    running[begun] = key, held_by(needs, jobs), jobs
+                    niceness[key] = gives_way(ahead[key], ahead[leader])
+                    run = pool.submit(giving_way(call, niceness[key], threads.setdefault(key, [])) if niceness[key] else call, given, jobs)
+                    running[run] = key, held_by(needs, jobs), jobs
             for it in wait(running, return_when=FIRST_COMPLETED).done:
                 key, _, _ = running.pop(it)
                 threads.pop(key, None)
@@ -269,6 +294,8 @@ def change(rt, kept, untested=()):
             return self.words([*flags, "--incremental", kept_work], keeps=False)
 
         def ci(self, flags, tests):
+            if self.is_program and not tests:
+                print(f"one_check: {self.name} is begun\n", end="", flush=True)
             if tests or not self.is_program or self.name not in kept:
                 return super().ci(flags, tests)
             if not self.empty():
