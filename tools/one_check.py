@@ -8,7 +8,6 @@ line then has the word incremental=trusted, which says that its verdict trusts w
 other, is let through beside those that `rt ci` lets through. Such a library is built whole, and not by its statements alone, which the kit
 has for no check that keeps its work. A program is compiled over what its check kept, which the compilers' runs of the prover look through again;
 one line says that its edits can be tried meanwhile. Both compilers compile a program side by side, and one line says when it can be run.
-One more says when its check begins: a program stands on all others, so that few checks are left, and processors are idle now and then.
 All other crates are proved as `rt ci` does, which takes less time, and their libraries hold their statements alone. These get their stamp, so that
 `rt check` takes them as they are: in a room they lie over the very libraries that they were built over.
 
@@ -16,10 +15,11 @@ The tests of crates behind the word `--` are neither proved nor run: that they a
 
 And its plan, which goes by tools/costs. How much memory a check takes is what was measured, and a tenth more: `rt ci` reckons it by
 lines, which is twice as much for the crates on top, so that these waited for one another. And the check with the longest chain of
-others behind it gets three quarters of the processors, where `rt ci` shares them alike among all that may begin: plm_syntax, on
+others behind it has a job for each processor, up to four, whatever else runs, where `rt ci` shares them alike among all that may begin: plm_syntax, on
 which most others wait, got one. It leaves memory for the next one: where acceptance's tests took all, plm86 waited for their end.
-A check begins and ends with a minute or two in one process, and in between its jobs wait for one another: so half as many jobs more than
-there are processors may run, and all give way to the check that leads: those less whose chain is near its own, or comes to be as others end.
+What can begin begins, and gives way to the check that leads: with two jobs and a little where its chain is near that one's, or comes to be as others end, else with one job, on what is left over.
+A check begins and ends with a minute or two in one process, and in between its jobs wait for one another: the others have the processors then.
+(Where jobs were counted, and the leader took what others had left, listing_map had two for all of its way, as two others had begun half a minute before it.)
 
 Several jobs of a check take more than one in all, of plm_token a third to a half. So on two processors each check has one job, but for the one with the longest
 chain behind it where what else there is to do takes less time than it does: else a processor would wait for it. Of what is begun only what it has
@@ -30,7 +30,6 @@ usage: tools/one_check.py [NAME..] [-- NAME..]      at the top of a repository, 
 
 import contextlib
 import importlib.machinery
-import math
 import os
 import re
 import shutil
@@ -56,8 +55,8 @@ COMPANY = 1.3
 SHORT = 60
 # By how much checks give way to the one that leads, where the chain behind them is near the longest, and where it is less than this part of it: what Linux calls their niceness.
 NEAR_GIVES, FAR_GIVES, FAR = 3, 8, 0.65
-# How many jobs a check has at most that does not lead, so that acceptance's tests leave plm86 a processor. That two take less in all than three was not seen.
-OF_OTHERS = 2
+# How many jobs a check has on more than two processors: one that leads, at most; one whose chain is near the longest; and any other.
+OF_LEADER, OF_NEAR, OF_OTHERS = 4, 2, 1
 # The parts of the kit's crates that are called or changed here, and what they take.
 FORMS = {
     "build_rlib": ("self", "flags", "anew"),
@@ -137,6 +136,11 @@ def gives_way(chain, longest):
     return 0 if chain >= longest else near if chain >= FAR * longest else FAR_GIVES
 
 
+def share(chain, longest, processors):
+    """Returns how many jobs a check has, at most, that has such a chain behind it."""
+    return min(OF_LEADER, processors) if chain >= longest else OF_NEAR if chain >= FAR * longest else OF_OTHERS
+
+
 def giving_way(call, by, threads):
     """Returns the call so that what it starts gives way to others. (A thread has a niceness of its own, which what it starts begins with: its number is put into threads.)"""
 
@@ -185,7 +189,7 @@ def to_go(seconds, begun):
 
 def in_lanes(rt, tasks):
     """Runs the tasks of rt ci side by side, as its own in_lanes does, and returns what each gave. A task is what it waits for, its lines, its memory, and a
-    call with what was given and how many jobs it may use. Longest chain first; what leads gets three of four processors, and the others share the rest by their work. On two
+    call with what was given and how many jobs it may use. Longest chain first; what leads gets a job for each processor, up to four, and the others give way to it. On two
     processors two run at a time, each with one job, but what leads with two where the others would not keep the second processor busy."""
     known = costs.known()
     # (a task of no lines is one of tests that there are none of)
@@ -193,14 +197,13 @@ def in_lanes(rt, tasks):
     memory, behind = 0.85 * rt.free(), chains(tasks, seconds)
     processors = rt.processors()
     are_few = processors < 3
-    of_leader, lanes = math.ceil(0.75 * processors), processors + processors // 2
     left, running, given = sorted(tasks, key=lambda it: -behind[it]), {}, {}
     threads, niceness = {}, {}
     # (13f ends what it began where it is itself ended; 13b has no such word)
     ending = getattr(rt, "ending", contextlib.nullcontext)
-    with ending(), ThreadPoolExecutor(lanes) as pool:
+    with ending(), ThreadPoolExecutor(max(1, len(tasks))) as pool:
         while left or running:
-            begun = [key for key, _, _ in running.values()]
+            begun = [key for key, _ in running.values()]
             still = to_go(seconds, begun)
             ahead = {it: behind[it] - seconds[it] + still[it] for it in [*left, *begun]}
             leader = max(ahead, key=ahead.get)
@@ -210,22 +213,20 @@ def in_lanes(rt, tasks):
             ready = [it for it in left if all(below in given for below in tasks[it][0])]
             for at, key in enumerate(ready):
                 _, _, needs, call = tasks[key]
-                idle = 0 if are_few and len(running) >= processors else lanes - sum(jobs for _, _, jobs in running.values())
-                room = memory - sum(held for _, held, _ in running.values())
-                if idle > 0 and (not running or needs <= room):
-                    share = round(idle * seconds[key] / max(1, sum(seconds[it] for it in ready[at:])))
-                    wanted = max(share, of_leader) if key == leader else min(share, OF_OTHERS)
-                    spare = room - max((tasks[it][2] for it in ready[at + 1 :] if seconds[it] > SHORT), default=0)
-                    undone = {it: tasks[it] for it in tasks if it not in given}
-                    is_spread = not are_few or key == leader and beside(undone, still, key) < seconds[key]
-                    most = min(4, processors) if is_spread else 1
-                    jobs = max(1, min(most, idle, wanted, jobs_within(spare, needs)))
-                    left.remove(key)
-                    niceness[key] = gives_way(ahead[key], ahead[leader])
-                    run = pool.submit(giving_way(call, niceness[key], threads.setdefault(key, [])) if niceness[key] else call, given, jobs)
-                    running[run] = key, held_by(needs, jobs), jobs
+                room = memory - sum(held for _, held in running.values())
+                if running and (needs > room or are_few and len(running) >= processors):
+                    continue
+                undone = {it: tasks[it] for it in tasks if it not in given}
+                is_alone = key == leader and beside(undone, still, key) < seconds[key]
+                wanted = 1 + is_alone if are_few else share(ahead[key], ahead[leader], processors)
+                spare = room - max((tasks[it][2] for it in ready[at + 1 :] if seconds[it] > SHORT), default=0)
+                jobs = max(1, min(processors, wanted, jobs_within(spare, needs)))
+                left.remove(key)
+                niceness[key] = gives_way(ahead[key], ahead[leader])
+                run = pool.submit(giving_way(call, niceness[key], threads.setdefault(key, [])) if niceness[key] else call, given, jobs)
+                running[run] = key, held_by(needs, jobs)
             for it in wait(running, return_when=FIRST_COMPLETED).done:
-                key, _, _ = running.pop(it)
+                key, _ = running.pop(it)
                 threads.pop(key, None)
                 given[key] = it.result()
     return given
@@ -294,8 +295,6 @@ def change(rt, kept, untested=()):
             return self.words([*flags, "--incremental", kept_work], keeps=False)
 
         def ci(self, flags, tests):
-            if self.is_program and not tests:
-                print(f"one_check: {self.name} is begun\n", end="", flush=True)
             if tests or not self.is_program or self.name not in kept:
                 return super().ci(flags, tests)
             if not self.empty():
