@@ -19,7 +19,7 @@ others behind it has a job for each processor, up to four, whatever else runs, w
 which most others wait, got one. It leaves memory for the next one: where acceptance's tests took all, plm86 waited for their end.
 What can begin begins, and gives way to the check that leads: with two jobs and a little where its chain is near that one's, or comes to be as others end, else with one job, on what is left over.
 A check begins and ends with a minute or two in one process, and in between its jobs wait for one another: the others have the processors then.
-(Where jobs were counted, and the leader took what others had left, listing_map had two for all of its way, as two others had begun half a minute before it.)
+(Where jobs were counted, and the leader took what others had left, listing_map had two for all of its way, as two others had begun three minutes before it, with two each.)
 
 Several jobs of a check take more than one in all, of plm_token a third to a half. So on two processors each check has one job, but for the one with the longest
 chain behind it where what else there is to do takes less time than it does: else a processor would wait for it. Of what is begun only what it has
