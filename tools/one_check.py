@@ -54,7 +54,9 @@ COMPANY = 1.3
 # Seconds of a task for which no memory is kept.
 SHORT = 60
 # By how much checks give way to the one that leads, where the chain behind them is near the longest, and where it is less than this part of it: what Linux calls their niceness.
+# It is added to the niceness that this program itself was begun with.
 NEAR_GIVES, FAR_GIVES, FAR = 3, 8, 0.65
+OWN_NICENESS = os.getpriority(os.PRIO_PROCESS, 0)
 # How many jobs a check has on more than two processors: one that leads, at most; one whose chain is near the longest; and any other.
 OF_LEADER, OF_NEAR, OF_OTHERS = 4, 2, 1
 # The parts of the kit's crates that are called or changed here, and what they take.
@@ -146,7 +148,7 @@ def giving_way(call, by, threads):
 
     def patient(*words):
         threads.append(threading.get_native_id())
-        os.setpriority(os.PRIO_PROCESS, threads[-1], by)
+        os.setpriority(os.PRIO_PROCESS, threads[-1], OWN_NICENESS + by)
         return call(*words)
 
     def in_its_own_thread(*words):
@@ -166,7 +168,7 @@ def gives_way_by(by, name, threads):
     for it in found:
         # (one may have ended by now)
         with contextlib.suppress(OSError):
-            os.setpriority(os.PRIO_PROCESS, it, by)
+            os.setpriority(os.PRIO_PROCESS, it, OWN_NICENESS + by)
 
 
 def taken(name):
