@@ -2,57 +2,12 @@
 
 ghost use Rattle.std.specs.Prelude.{◌≡◌, ◌<◌};
 ghost use Rattle.word86.specs.Access.{values};
-ghost use Rattle.i86_table.specs.Arithmetic.{added, subtracted, operated, tested, changed};
+ghost use Rattle.i86_table.specs.Arithmetic.{operated, tested, changed};
 
-use crate::flags::Flags;
 use crate::instruction::{AluOperation, UnaryOperation};
 use crate::late_flags::LateFlags;
-use crate::outcome::Outcome;
-use crate::width::{sign, size, wrap};
+use crate::width::size;
 use word86::Width;
-
-/// The sum with a carry that comes in.
-#[tactic(auto, unfolding(crate::specs::Arithmetic::added))]
-pub(crate) fn add(width: Width, a: u16, b: u16, carry: bool, flags: Flags) -> Outcome
-    ensures value { result ≡ added width a b carry flags }
-    ensures fits { result.value < values width }
-{
-    let carry = u32::from(carry);
-    let sum = u32::from(a) + u32::from(b) + carry;
-    let value = wrap(width, sum);
-    let (a_sign, b_sign) = (sign(width, a), sign(width, b));
-    let flags = flags
-        .with(Flags::CARRY, sum >= size(width))
-        .with(Flags::AUXILIARY, u32::from(a % 16 + b % 16) + carry >= 16)
-        .with(
-            Flags::OVERFLOW,
-            a_sign == b_sign && sign(width, value) != a_sign,
-        )
-        .with_result(width, value);
-    Outcome { value, flags }
-}
-
-/// The difference with a borrow that comes in.
-#[tactic(auto, unfolding(crate::specs::Arithmetic::subtracted))]
-pub(crate) fn subtract(width: Width, a: u16, b: u16, borrow: bool, flags: Flags) -> Outcome
-    requires left { a < values width }
-    requires right { b < values width }
-    ensures value { result ≡ subtracted width a b borrow flags }
-    ensures fits { result.value < values width }
-{
-    let taken = u32::from(b) + u32::from(borrow);
-    let value = wrap(width, u32::from(a) + size(width) - taken);
-    let (a_sign, b_sign) = (sign(width, a), sign(width, b));
-    let flags = flags
-        .with(Flags::CARRY, u32::from(a) < taken)
-        .with(Flags::AUXILIARY, a % 16 < b % 16 + u16::from(borrow))
-        .with(
-            Flags::OVERFLOW,
-            a_sign != b_sign && sign(width, value) != a_sign,
-        )
-        .with_result(width, value);
-    Outcome { value, flags }
-}
 
 impl LateFlags {
     /// The result of ADD, OR, ADC, SBB, AND, SUB or XOR; CMP answers its first operand.

@@ -12,14 +12,11 @@ use crate::width::size;
 use word86::Width;
 
 /// A byte as a word of the same signed value, as CBW has it and distances of one byte.
+#[inline(always)]
 pub fn sign_extended(byte: u8) -> u16
     ensures { result ≡ sign_extended byte }
 {
-    if byte < 128 {
-        u16::from(byte)
-    } else {
-        u16::from(byte) + 65280
-    }
+    u16::from(byte.wrapping_add(128)).wrapping_add(65408)
 }
 
 /// The upper word of a word's signed value, as CWD puts it into DX.

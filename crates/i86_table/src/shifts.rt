@@ -3,7 +3,7 @@
 ghost use Rattle.std.specs.Prelude.{◌≡◌, ◌<◌};
 ghost use Rattle.word86.specs.Access.{values};
 ghost use Rattle.i86_table.specs.Arithmetic.{moved_once, moved, with_shift_result, shift_overflow, shifted};
-ghost use Rattle.i86_table.specs.Inner.LateFlags.{once_flags};
+ghost use Rattle.i86_table.specs.Inner.LateFlags.{once_flags, rotated_flags};
 
 use crate::flags::Flags;
 use crate::instruction::ShiftOperation;
@@ -117,8 +117,22 @@ impl LateFlags {
         value
     }
 
+    /// A rotation by one place.
+    #[inline(always)]
+    fn set_rotated(&mut self, operation: ShiftOperation, width: Width, a: u16) -> u16
+        requires { a < values width }
+        ensures value { result ≡ (moved_once operation width a).0 }
+        ensures flags { self.new ≡ rotated_flags operation width a self.old }
+        ensures fits { result < values width }
+    {
+        let (value, out) = move_once(operation, width, a);
+        let overflow = overflow(operation, width, a, value, out);
+        self.set_moved(out, overflow);
+        value
+    }
+
     /// The result of a shift or rotation.
-    #[tactic(auto, using(crate::proofs::LateLaws::shifted_value, crate::proofs::LateLaws::shl_flags, crate::proofs::LateLaws::shr_flags, crate::proofs::LateLaws::sar_flags))]
+    #[tactic(auto, using(crate::proofs::LateLaws::rol_flags, crate::proofs::LateLaws::ror_flags, crate::proofs::LateLaws::shifted_value, crate::proofs::LateLaws::shl_flags, crate::proofs::LateLaws::shr_flags, crate::proofs::LateLaws::sar_flags))]
     #[inline(always)]
     pub(crate) fn shift(
         &mut self,
@@ -135,6 +149,9 @@ impl LateFlags {
         match operation {
             ShiftOperation::Shl | ShiftOperation::Shr | ShiftOperation::Sar if count == 1 => {
                 self.set_shifted(operation, width, a)
+            }
+            ShiftOperation::Rol | ShiftOperation::Ror if count == 1 => {
+                self.set_rotated(operation, width, a)
             }
             _ => {
                 let outcome = shift(operation, width, a, count, self.flags());
