@@ -4,3 +4,4 @@ pub mod LawfulMemory
 pub mod Reading
 pub mod Steps
 pub mod Stretch
+pub mod Timetable

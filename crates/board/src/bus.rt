@@ -133,7 +133,7 @@ impl Attached {
 
     /// A store of a word that is not in RAM, and the label that shows it: most of them are on the colour page.
     #[tactic(auto, using(crate::proofs::Stores::seen_word))]
-    #[inline(never)]
+    #[inline(always)]
     fn store_word_beside_ram(&mut self, segment: u16, offset: u16, value: u16) -> Option<Label>
         ensures label { result ≡ shown_store (access_at Word segment offset value) }
         ensures after { world_of self.new ≡ (board_model settled_chips).store (world_of self.old) (access_at Word segment offset value) }

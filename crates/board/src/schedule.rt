@@ -1,8 +1,9 @@
 //! Schedules: what comes from outside at which turn, and when the run stops.
 
-ghost use Rattle.std.specs.Prelude.{◌≡◌, ◌≢◌, ◌<◌, ◌≤◌, ℕ, [], IfOk, IfErr, Some};
+ghost use Rattle.std.specs.Prelude.{◌≡◌, ◌+◌, ◌≢◌, ◌<◌, ◌≤◌, ℕ, [], IfOk, IfErr, Some};
 ghost use Rattle.word86.specs.declared.fault.Fault.TheVariants.{Memory};
 ghost use Rattle.board.specs.Timetable.{due_at};
+ghost use Rattle.board.specs.Inner.Timetable.{AreBefore};
 ghost use Rattle.board.specs.Schedule.{read_lines, IsRead, fault_of};
 
 use crate::reading;
@@ -38,6 +39,36 @@ impl Schedule {
         ensures { result.now ≡ due_at turn self.now.timetable.turns.items self.now.timetable.events.items }
     {
         self.timetable.due(turn)
+    }
+
+    /// How many events come before a turn, found in logarithmic time.
+    pub(crate) fn count_before(&self, turn: u32) -> usize
+        ensures { AreBefore turn self.now.timetable.turns.items result }
+    {
+        self.timetable.count_before(turn)
+    }
+
+    /// The events of a turn, in the schedule's order, and how many come before the next turn, where so many come before this one.
+    #[inline(always)]
+    pub(crate) fn due_behind(&self, before: usize, turn: u32) -> (&[Event], usize)
+        requires { AreBefore turn self.now.timetable.turns.items before }
+        ensures due { result.0.now ≡ due_at turn self.now.timetable.turns.items self.now.timetable.events.items }
+        ensures next { AreBefore (turn + 1) self.now.timetable.turns.items result.1 }
+    {
+        self.timetable.due_behind(before, turn)
+    }
+
+    /// The turn of the event behind those that come up to a turn, or the one to which a part of a run goes where that comes first.
+    #[inline(always)]
+    pub(crate) fn pause_behind(&self, before: usize, turn: u32, to: u32) -> u32
+        requires order { turn < to }
+        requires before { AreBefore (turn + 1) self.now.timetable.turns.items before }
+        ensures later { turn < result }
+        ensures within { result ≤ to }
+        ensures quiet { (t : ℕ) → turn < t → t < result → due_at t self.now.timetable.turns.items self.now.timetable.events.items ≡ [] }
+        ensures before { AreBefore result self.now.timetable.turns.items before }
+    {
+        self.timetable.turn_behind(before, turn).min(to)
     }
 
     /// The first turn after this one that has events, or the stop where it comes first, found in logarithmic time: between the

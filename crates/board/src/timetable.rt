@@ -1,8 +1,9 @@
 //! Events in the order of their turns.
 
-ghost use Rattle.std.specs.Prelude.{◌≡◌, ◌≢◌, ℕ, ◌==◌, ◌≤◌, ◌-◌, ◌<◌, ◌++◌, ◌∷◌, [], OnOk, OnErr, length, slice_index};
+ghost use Rattle.std.specs.Prelude.{◌≡◌, ◌≢◌, ℕ, ◌==◌, ◌≤◌, ◌-◌, ◌<◌, ◌+◌, ◌++◌, ◌∷◌, [], OnOk, OnErr, length, slice_index};
 ghost use Rattle.std.specs.List.Sorted.{IsNonDecreasingBy};
 ghost use Rattle.board.specs.Timetable.{due_at, last_turn};
+ghost use Rattle.board.specs.Inner.Timetable.{AreBefore};
 
 use std::alloc::Global;
 use word86::{Event, Fault};
@@ -72,6 +73,64 @@ impl Timetable {
     {
         next_in(&self.turns, turn)
     }
+}
+
+impl Timetable {
+    /// How many events come before this turn, found in logarithmic time.
+    pub(crate) fn count_before(&self, turn: u32) -> usize
+        ensures { AreBefore turn self.now.turns.items result }
+    {
+        before_in(&self.turns, turn)
+    }
+
+    /// The events of a turn, in their order, and how many come before the next turn, where so many come before this one. Nothing is searched for.
+    #[inline(always)]
+    pub(crate) fn due_behind(&self, before: usize, turn: u32) -> (&[Event], usize)
+        requires { AreBefore turn self.now.turns.items before }
+        ensures due { result.0.now ≡ due_at turn self.now.turns.items self.now.events.items }
+        ensures next { AreBefore (turn + 1) self.now.turns.items result.1 }
+    {
+        let next = past(&self.turns, before, turn);
+        (&self.events[before..next], next)
+    }
+
+    /// The turn of the event behind those that come up to a turn, or the greatest number.
+    #[inline(always)]
+    pub(crate) fn turn_behind(&self, before: usize, turn: u32) -> u32
+        requires { AreBefore (turn + 1) self.now.turns.items before }
+        ensures later { turn < 4294967295 → turn < result }
+        ensures quiet { (t : ℕ) → turn < t → t < result → due_at t self.now.turns.items self.now.events.items ≡ [] }
+        ensures before { (t : ℕ) → turn < t → t ≤ result → AreBefore t self.now.turns.items before }
+    {
+        if before < self.turns.len() {
+            self.turns[before]
+        } else {
+            u32::MAX
+        }
+    }
+}
+
+/// How many of the turns are before `turn`.
+fn before_in(turns: &[u32], turn: u32) -> usize
+    requires { IsNonDecreasingBy (λ n. n) turns.now }
+    ensures { AreBefore turn turns.now result }
+{
+    turns.partition_point(|n| *n < turn)
+}
+
+/// The place behind the turns up to this one, from a place on before which no later one stands.
+#[inline(always)]
+fn past(turns: &[u32], from: usize, turn: u32) -> usize
+    requires sorted { IsNonDecreasingBy (λ n. n) turns.now }
+    requires before { AreBefore turn turns.now from }
+    ensures later { from ≤ result }
+    ensures next { AreBefore (turn + 1) turns.now result }
+{
+    let mut place = from;
+    while place < turns.len() && turns[place] <= turn {
+        place += 1;
+    }
+    place
 }
 
 /// The first of the turns that is above `turn`, or the greatest number.
