@@ -1,7 +1,7 @@
 -- A run turn by turn, each line after its turn.
-use Rattle.std.proofs.Common.{◌≡◌, ℕ, zero, suc, ◌+◌, ◌-◌, ◌<◌, ◌++◌, List, [], ◌∷◌, Option, Some, None, refl, sym, ap, ap₂, ◌∙◌, subst, append-nil, append_assoc, arith, inl, inr, drop, get_or, length}
-use Rattle.std.specs.Prelude.{map, option_map}
-use Rattle.std.specs.List.{flat_map}
+use Rattle.std.proofs.Common.{◌≡◌, ◌≢◌, ◌≤◌, ℕ, zero, suc, ◌+◌, ◌-◌, ◌<◌, ◌++◌, List, [], Option, Some, None, refl, sym, ap, ap₂, ◌∙◌, subst, append-nil, append_assoc, arith, inl, inr, drop, get_or, length}
+use Rattle.std.specs.Prelude.{map, option_map, IfOk, MatchResult, Result, Ok, Err}
+use Rattle.word86.specs.declared.fault.Fault.{Fault}
 use Rattle.std.proofs.lemmas.Grind.{flat_map-append}
 use Rattle.std.proofs.lemmas.List.{at_drop_more}
 use Rattle.std.proofs.KnownBytes.{Appends-trans, Appends-nil}
@@ -10,7 +10,7 @@ use Rattle.std.proofs.lemmas.Bool.{cases_order}
 use Rattle.word86.specs.declared.event.Event.{Event}
 use Rattle.word86.specs.declared.label.Label.{Label}
 use Rattle.word86.specs.Event.{event_label}
-use Rattle.word86.specs.Sink.{Appends, Cut, Rises}
+use Rattle.word86.specs.Sink.{Appends, Cut, Rises, Writes}
 use Rattle.cpu8086.specs.declared.cpu.Kind.{Kind}
 use Rattle.cpu8086.specs.declared.cpu.Kind.TheVariants as kinds
 use Rattle.ppi_kbd.specs.Chips.{ChipState}
@@ -24,7 +24,13 @@ use Rattle.board.specs.Trace.{opcode_of}
 use Rattle.board.specs.Run.{board_turn, board_kind, board_after, kind_at, GoesOn, Ends}
 use Rattle.board.specs.Board.{Shows}
 use Rattle.board.specs.Numbered.{numbered, numbered_lines, numbered_closing, numbered_turn_text, numbered_text, numbered_run, RanNumbered, BrokeNumbered}
+use Rattle.board.specs.Inner.Counted.{Counted, CountedOn, CountedBy}
+use Rattle.board.specs.Inner.Steps.{answer_of}
+use Rattle.board.specs.Inner.Stretch.{AreQuiet, Went}
+use Rattle.board.specs.declared.run.Step.{Step}
+use Rattle.board.specs.declared.run.Step.TheVariants as steps
 use Rattle.board.proofs.Running.{board_next, goes_on_next, goes_on_by, ends_by}
+use Rattle.board.proofs.Stretches.{silent_quiet, quiet_goes_on, went_idle}
 
 -- the lines of the labels from a place of the list on
 pub labels_from : (turn : ℕ) (ls : List Label) (j : ℕ) (d : Label) → j < length ls
@@ -56,13 +62,6 @@ closing_is turn kinds.Wait a e = absurd cc
 
 regroup : (a c d e f : List ℕ) → ((a ++ (c ++ d)) ++ e) ++ f ≡ (a ++ c) ++ (d ++ (e ++ f))
 regroup a c d e f = simp append_assoc refl
-
--- n turns went on, their lines were taken, and the board stands after them
-pub record Counted (due : ℕ → List Event) (b : Board (World ChipState)) (n : ℕ) (q : code.Board) (old new : Option (List ℕ)) (before after : ℕ) : Type 0 where
-  pub goes_on : GoesOn due n b
-  pub board : Shows q (board_after due n b)
-  pub taken : Appends old new (numbered_text due n b)
-  pub same : after ≡ before
 
 module _ (due : ℕ → List Event) (b : Board (World ChipState)) where
   -- what follows the lines of the first turns
@@ -114,10 +113,10 @@ module _ (due : ℕ → List Event) (b : Board (World ChipState)) where
   pub counted_none : (p : code.Board) (a : Option (List ℕ)) (m : ℕ) → Shows p b → Counted due b 0 p a a m m
   counted_none p a m h = record { goes_on = λ k lt. absurd (omega (arith, lt)); board = h; taken = Appends-nil a; same = refl }
 
-  pub counted_next : (k : ℕ) (p q : code.Board) (old mid new : Option (List ℕ)) (m l n : ℕ) → Counted due b k p old mid m l
-      → ((c : Board (World ChipState)) → Shows p c → Shows q (board_turn (due k) c).0)
-      → ((c : Board (World ChipState)) → Shows p c → Appends mid new (numbered_turn_text k (due k) c) × (n ≡ l))
-      → ((c : Board (World ChipState)) → Shows p c → None ≡ option_map Opcode (opcode_of (board_kind (due k) c)))
+  pub counted_next : (k : ℕ) (Here : Board (World ChipState) → Type 0) (q : code.Board) (old mid new : Option (List ℕ)) (m l n : ℕ) → CountedOn due b k Here old mid m l
+      → ((c : Board (World ChipState)) → Here c → Shows q (board_turn (due k) c).0)
+      → ((c : Board (World ChipState)) → Here c → Appends mid new (numbered_turn_text k (due k) c) × (n ≡ l))
+      → ((c : Board (World ChipState)) → Here c → None ≡ option_map Opcode (opcode_of (board_kind (due k) c)))
       → Counted due b (k + 1) q old new m n
   counted_next k p q old mid new m l n f state text end =
       let c = board_after due k b in
@@ -130,10 +129,10 @@ module _ (due : ℕ → List Event) (b : Board (World ChipState)) where
         same = (text c f.board).1 ∙ f.same;
       })
 
-  pub counted_opcode : (stop k : ℕ) (p q : code.Board) (old mid new : Option (List ℕ)) (m l n : ℕ) (e : End) → k < stop → Counted due b k p old mid m l
-      → ((c : Board (World ChipState)) → Shows p c → Shows q (board_turn (due k) c).0)
-      → ((c : Board (World ChipState)) → Shows p c → Appends mid new (numbered_turn_text k (due k) c) × (n ≡ l))
-      → ((c : Board (World ChipState)) → Shows p c → Some e ≡ option_map Opcode (opcode_of (board_kind (due k) c)))
+  pub counted_opcode : (stop k : ℕ) (Here : Board (World ChipState) → Type 0) (q : code.Board) (old mid new : Option (List ℕ)) (m l n : ℕ) (e : End) → k < stop → CountedOn due b k Here old mid m l
+      → ((c : Board (World ChipState)) → Here c → Shows q (board_turn (due k) c).0)
+      → ((c : Board (World ChipState)) → Here c → Appends mid new (numbered_turn_text k (due k) c) × (n ≡ l))
+      → ((c : Board (World ChipState)) → Here c → Some e ≡ option_map Opcode (opcode_of (board_kind (due k) c)))
       → RanNumbered due stop b q old new m n e
   counted_opcode stop k p q old mid new m l n e lt f state text end =
       let c = board_after due k b in
@@ -158,9 +157,9 @@ module _ (due : ℕ → List Event) (b : Board (World ChipState)) where
     same = h.1 ∙ f.same;
   }
 
-  pub counted_fails : (stop k : ℕ) (p q : code.Board) (old mid new : Option (List ℕ)) (m l n : ℕ) → k < stop → Counted due b k p old mid m l
-      → ((c : Board (World ChipState)) → Shows p c → Shows q (board_turn (due k) c).0)
-      → ((c : Board (World ChipState)) → Shows p c → Cut mid new (numbered_turn_text k (due k) c) × Rises l n)
+  pub counted_fails : (stop k : ℕ) (Here : Board (World ChipState) → Type 0) (q : code.Board) (old mid new : Option (List ℕ)) (m l n : ℕ) → k < stop → CountedOn due b k Here old mid m l
+      → ((c : Board (World ChipState)) → Here c → Shows q (board_turn (due k) c).0)
+      → ((c : Board (World ChipState)) → Here c → Cut mid new (numbered_turn_text k (due k) c) × Rises l n)
       → BrokeNumbered due stop b q old new m n
   counted_fails stop k p q old mid new m l n lt f state text =
       let c = board_after due k b in
@@ -189,3 +188,68 @@ module _ (due : ℕ → List Event) (b : Board (World ChipState)) where
         begins = λ e i ends. let x = stop_text stop h.0.0 h.0.1 f.goes_on h.0.2 e i ends in (numbered_text due stop b ++ h.0.0, x.0, x.1, taken);
         risen = subst (λ z. Rises z n) f.same h.1;
       }
+
+  -- one turn more, however it went
+  counted_by : (stop k : ℕ) (Here : Board (World ChipState) → Type 0) (q : code.Board) (old mid new : Option (List ℕ)) (m l n : ℕ) (s : Step) → k < stop → CountedOn due b k Here old mid m l
+      → ((c : Board (World ChipState)) → Here c → Shows q (board_turn (due k) c).0)
+      → ((c : Board (World ChipState)) → Here c → Writes mid new l n (numbered_turn_text k (due k) c) (answer_of s))
+      → ((c : Board (World ChipState)) → Here c → IfOk (answer_of s) (λ e. e ≡ option_map Opcode (opcode_of (board_kind (due k) c))))
+      → CountedBy due stop b (k + 1) q old new m n s
+  counted_by stop k p q old mid new m l n steps.Next lt f state text end = counted_next k p q old mid new m l n f state text end
+  counted_by stop k p q old mid new m l n (steps.Opcode a) lt f state text end = counted_opcode stop k p q old mid new m l n (Opcode a) lt f state text end
+  counted_by stop k p q old mid new m l n steps.Broken lt f state text end = counted_fails stop k p q old mid new m l n lt f state text
+
+  -- where a run ended, it is the same which turn it was to come to
+  pub counted_early : (stop k j : ℕ) (q : code.Board) (old new : Option (List ℕ)) (m n : ℕ) (s : Step) → s ≢ steps.Next → CountedBy due stop b k q old new m n s → CountedBy due stop b j q old new m n s
+  counted_early stop k j q old new m n steps.Next not g = absurd (not refl)
+  counted_early stop k j q old new m n (steps.Opcode a) not g = g
+  counted_early stop k j q old new m n steps.Broken not g = g
+
+  -- the line of the stop behind all turns, whether the sink took it or not
+  pub counted_closes : (stop : ℕ) (q : code.Board) (old mid new : Option (List ℕ)) (m l n : ℕ) (r : Result End Fault) → Counted due b stop q old mid m l → Writes mid new l n (numbered stop (end_line stop)) r → IfOk r (λ e. e ≡ Stopped)
+      → MatchResult r (RanNumbered due stop b q old new m n) (λ e. BrokeNumbered due stop b q old new m n)
+  counted_closes stop q old mid new m l n (Ok e) f h is = subst (RanNumbered due stop b q old new m n) (sym is) (counted_stops stop q old mid new m l n f h)
+  counted_closes stop q old mid new m l n (Err fault) f h is = counted_fails_at_stop stop q old mid new m l n f h
+
+  -- turns that show nothing have no lines
+  quiet_text_by : (d n : ℕ) → AreQuiet due b n (n + d) → numbered_text due (n + d) b ≡ numbered_text due n b
+  quiet_text_by zero n s = let e : n + 0 ≡ n = omega arith in ap (λ i. numbered_text due i b) e
+  quiet_text_by (suc d) n s =
+      let one : n + suc d ≡ suc (n + d) = omega arith in
+      let x = s (n + d) (omega arith) (omega arith) in
+      ap (λ i. numbered_text due i b) one ∙ ap (λ (ls : List Label). numbered_text due (n + d) b ++ numbered_lines (n + d) ls) x.0
+      ∙ append-nil (numbered_text due (n + d) b) ∙ quiet_text_by d n (λ k ge lt. s k ge (omega (arith, lt)))
+
+  counted_quiet : (n m : ℕ) (p : code.Board) (old mid : Option (List ℕ)) (c l : ℕ) → n ≤ m → AreQuiet due b n m → Counted due b n p old mid c l → CountedOn due b m (λ y. y ≡ board_after due m b) old mid c l
+  counted_quiet n m p old mid c l le s f =
+      let at : n + (m - n) ≡ m = omega (arith, le) in
+      let text : numbered_text due m b ≡ numbered_text due n b = ap (λ i. numbered_text due i b) (sym at) ∙ quiet_text_by (m - n) n (λ k ge lt. s k ge (omega (arith, lt, at))) in
+      record { goes_on = quiet_goes_on due b n m s f.goes_on; board = refl; taken = subst (Appends old mid) (sym text) f.taken; same = f.same }
+
+  -- how a run goes on after a stretch
+  pub counted_went : (stop n m turn : ℕ) (p q : code.Board) (old mid new : Option (List ℕ)) (c l e : ℕ) (st : Step) (ls : List Label) (kind : Kind) (es : List Event)
+      → (w : Went due b n m q ls kind) → due w.last ≡ es → turn ≡ w.last → m ≤ stop → Counted due b n p old mid c l
+      → Writes mid new l e ((numbered_lines turn (map event_label es) ++ numbered_lines turn ls) ++ numbered_closing turn kind) (answer_of st) → IfOk (answer_of st) (λ x. x ≡ option_map Opcode (opcode_of kind))
+      → CountedBy due stop b m q old new c e st
+  counted_went stop n m turn p q old mid new c l e st ls kind es w same number within f writes ends =
+      let j = w.last in
+      let z = board_after due j b in
+      let Here : Board (World ChipState) → Type 0 = λ y. y ≡ z in
+      let one : j + 1 ≡ m = omega (arith, w.next) in
+      let next : board_after due m b ≡ (board_turn (due j) z).0 = ap (λ i. board_after due i b) w.next ∙ board_next due b j in
+      let text : (numbered_lines turn (map event_label es) ++ numbered_lines turn ls) ++ numbered_closing turn kind ≡ numbered_turn_text j (due j) z =
+      ap (λ (t : ℕ). (numbered_lines t (map event_label es) ++ numbered_lines t ls) ++ numbered_closing t kind) number
+      ∙ ap (λ (x : List Event). (numbered_lines j (map event_label x) ++ numbered_lines j ls) ++ numbered_closing j kind) (sym same) ∙ turn_is j (due j) z ls kind w.shown w.was in
+      subst (λ i. CountedBy due stop b i q old new c e st) one
+      (counted_by stop j Here q old mid new c l e st (omega (arith, w.next, within))
+      (counted_quiet n j p old mid c l w.order (silent_quiet due b n j w.silent) f)
+      (λ y h. subst (λ (x : Board (World ChipState)). Shows q (board_turn (due j) x).0) (sym h) (subst (Shows q) next w.board))
+      (λ y h. subst (λ (x : Board (World ChipState)). Writes mid new l e (numbered_turn_text j (due j) x) (answer_of st)) (sym h) (subst (λ (t : List ℕ). Writes mid new l e t (answer_of st)) text writes))
+      (λ y h. subst (λ (x : Board (World ChipState)). IfOk (answer_of st) (λ o. o ≡ option_map Opcode (opcode_of (board_kind (due j) x)))) (sym h) (subst (λ (x : Kind). IfOk (answer_of st) (λ o. o ≡ option_map Opcode (opcode_of x))) w.was ends)))
+
+  pub counted_idle : (n m to : ℕ) (q : code.Board) (ls : List Label) (kind : Kind) (old mid : Option (List ℕ)) (c l : ℕ) → Went due b n m q ls kind → kind ≡ kinds.Wait → m ≤ to → ((t : ℕ) → n ≤ t → t < to → due t ≡ [])
+      → Counted due b m q old mid c l → Counted due b to q old mid c l
+  counted_idle n m to q ls kind old mid c l w is le quiet f =
+      let x = went_idle due b n m to q ls kind w is le quiet in
+      let g = counted_quiet m to q old mid c l le x.1 f in
+      record { goes_on = g.goes_on; board = subst (Shows q) (sym x.0) f.board; taken = g.taken; same = g.same }

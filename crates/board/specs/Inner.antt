@@ -1,5 +1,6 @@
 pub mod Settled
 pub mod Attached
+pub mod Counted
 pub mod LawfulMemory
 pub mod Reading
 pub mod Steps

@@ -18,5 +18,7 @@ pub struct Board {
     pub(crate) cache: DecodeCache,
     /// The instructions of the ROM that were met before, by their places: no turn is another one for it either.
     pub(crate) code: RomCode,
+    /// The first turn of the last run in which the processor waited with interrupts off.
+    pub(crate) died: Option<u32>,
     ghost same_rom: { code.rom.items ≡ attached.rom.items },
 }

@@ -19,6 +19,7 @@ mod schedule;
 mod showing;
 mod shown;
 mod signal_changes;
+mod stretch;
 mod timetable;
 mod trace;
 mod turns;

@@ -1,6 +1,7 @@
 //! Names that stand behind the lines of a run: those of a map, of ports that its user adds, and of the board's own ports.
 
 use crate::showing::address_of;
+use itoa::Buffer;
 use std::alloc::{AllocError, Global};
 use word86::Label;
 
@@ -20,6 +21,8 @@ pub struct PlaceName<'a> {
     first: u16,
     size: u16,
     name: &'a [u8],
+    /// Whether all bytes of the name are shown as they are.
+    is_printed: bool,
 }
 
 /// The ports of the board's chips.
@@ -41,6 +44,14 @@ fn number(text: &[u8]) -> Option<u16> {
     u16::try_from(address_of(text)?).ok()
 }
 
+/// A byte of a name as it is shown: a character of ASCII that is printed, or a question mark.
+fn printed(byte: u8) -> u8 {
+    match byte {
+        b' '..=b'~' => byte,
+        _ => b'?',
+    }
+}
+
 /// The words of a line, parted by blanks.
 fn words<'a>(alloc: Global, line: &'a [u8]) -> Result<Vec<&'a [u8]>, AllocError> {
     let mut words: Vec<&'a [u8]> = Vec::new(alloc);
@@ -58,6 +69,7 @@ fn placed<'a>(sort: Sort, first: &[u8], size: u16, name: &'a [u8]) -> Option<Pla
         first: number(first)?,
         size,
         name,
+        is_printed: name.iter().all(|byte| printed(*byte) == *byte),
     })
 }
 
@@ -98,11 +110,15 @@ fn place_of(label: &Label) -> Option<(Sort, u16)> {
 }
 
 /// The first name of a place, and how far behind the name's first byte it is.
-fn name_at<'a>(names: &[PlaceName<'a>], sort: Sort, place: u16) -> Option<(&'a [u8], u16)> {
+fn name_at<'n, 'a>(
+    names: &'n [PlaceName<'a>],
+    sort: Sort,
+    place: u16,
+) -> Option<(&'n PlaceName<'a>, u16)> {
     for name in names {
         let distance = place.wrapping_sub(name.first);
         if name.sort == sort && place >= name.first && distance < name.size {
-            return Some((name.name, distance));
+            return Some((name, distance));
         }
     }
     None
@@ -118,9 +134,44 @@ fn own_port(port: u16) -> Option<&'static [u8]> {
     None
 }
 
-/// Adds the name of what a label is of, behind a blank, if it has one.
+/// Adds a name as it is shown.
+fn put_printed(text: &mut Vec<u8>, name: &[u8]) -> Result<(), AllocError> {
+    for byte in name {
+        text.push(printed(*byte))?;
+    }
+    Ok(())
+}
+
+/// Adds a name behind a blank.
+fn put_name(text: &mut Vec<u8>, name: &PlaceName<'_>) -> Result<(), AllocError> {
+    text.push(b' ')?;
+    if name.is_printed {
+        return text.extend_from_slice(name.name);
+    }
+    put_printed(text, name.name)
+}
+
+/// Adds the name of a port of the board behind a blank, if it is one.
+fn put_own_port(text: &mut Vec<u8>, port: u16) -> Result<(), AllocError> {
+    let Some(name) = own_port(port) else {
+        return Ok(());
+    };
+    text.push(b' ')?;
+    text.extend_from_slice(name)
+}
+
+/// Adds how far behind a name's first byte a place is, where it is another one.
+fn put_distance(text: &mut Vec<u8>, distance: u16) -> Result<(), AllocError> {
+    if distance == 0 {
+        return Ok(());
+    }
+    let mut buffer = Buffer::new();
+    text.push(b'+')?;
+    text.extend_from_slice(buffer.format(distance).as_bytes())
+}
+
+/// Adds the name of what a label is of, behind a blank, if it has one. Bytes of a name that are not printed show as `?`.
 pub(crate) fn put_place_name(
-    alloc: Global,
     text: &mut Vec<u8>,
     names: &[PlaceName<'_>],
     label: &Label,
@@ -129,19 +180,11 @@ pub(crate) fn put_place_name(
         return Ok(());
     };
     if let Some((name, distance)) = name_at(names, sort, place) {
-        text.push(b' ')?;
-        text.extend_from_slice(name)?;
-        if distance > 0 {
-            let more = format!(in alloc; "+{distance}")?;
-            text.extend_from_slice(more.as_str().as_bytes())?;
-        }
-        return Ok(());
+        put_name(text, name)?;
+        return put_distance(text, distance);
     }
-    if sort == Sort::Port {
-        if let Some(name) = own_port(place) {
-            text.push(b' ')?;
-            text.extend_from_slice(name)?;
-        }
+    match sort {
+        Sort::Port => put_own_port(text, place),
+        Sort::Colour | Sort::Monochrome | Sort::Handler => Ok(()),
     }
-    Ok(())
 }

@@ -52,6 +52,7 @@ impl Board {
         ensures refused { is_rom_length (length rom.now) ≡ false → result ≡ Err (At 0 1 E705) }
         ensures taken { is_rom_length (length rom.now) ≡ true → IfErr result (λ e. e ≡ Memory) }
         ensures reset { IfOk result (λ b. Shows b (powered_on zeros rom.now power_on.ram.items (pages_of power_on) reset)) }
+        ensures alive { IfOk result (λ b. b.died ≡ None) }
     {
         if !is_rom_length(rom.len()) {
             return Err(Fault::At(0, 1, Number::E705));
@@ -73,6 +74,7 @@ impl Board {
             },
             cache,
             code,
+            died: None,
         })
     }
 
@@ -102,6 +104,7 @@ impl Board {
         ensures labels { (b : State (World ChipState)) → Shows self.old b → map event_label events.now ++ labels.new.items ≡ (turn (board_model board_chips) (occurs board_chips) events.now b).1 }
         ensures kind { (b : State (World ChipState)) → Shows self.old b → result ≡ turn_kind (board_model board_chips) (occurs board_chips) events.now b }
         ensures wait { result ≡ Wait → labels.new.items ≡ [] }
+        ensures died { self.new.died ≡ self.old.died }
     {
         alike_law();
         let attached = &mut self.attached;

@@ -1,21 +1,26 @@
-//! Runs that are watched turn by turn: to an address, with names behind the lines, or with what changes on lines and ports.
+//! Runs that are watched: to an address, with names behind the lines, or with what changes on lines and ports.
 //!
 //! The board goes as in a run; what is written has no contract: `tests/watched` compares it with the trace of `run`.
 
-ghost use Rattle.std.specs.Prelude.{◌≡◌, ◌≤◌, ◌<◌, ℕ, true, false, IfOk, IfErr};
+ghost use Rattle.std.specs.Prelude.{◌≡◌, ◌≤◌, ◌<◌, ◌+◌, ℕ, List, [], IfOk, IfErr};
+ghost use Rattle.word86.specs.declared.event.Event.{Event};
 ghost use Rattle.ppi_kbd.specs.Chips.{ChipState};
 ghost use Rattle.board.specs.World.{World};
 ghost use Rattle.board.specs.Machine.{Board as State};
 ghost use Rattle.board.specs.Board.{Shows};
-ghost use Rattle.board.specs.Run.{board_after, board_turn, due_of};
-ghost use Rattle.board.specs.Watched.{IsRunFault, is_dead};
+ghost use Rattle.board.specs.Run.{board_after, due_of};
+ghost use Rattle.board.specs.Watched.{IsRunFault, is_dead, FirstDead, Stands};
+ghost use Rattle.board.specs.Inner.Stretch.{IsWithin, StandsBy};
 
 use crate::board::Board;
+use crate::numbered::put_numbered;
 use crate::place_names::{PlaceName, put_place_name};
 use crate::run::{CANNOT_WRITE, End};
 use crate::schedule::Schedule;
 use crate::signal_changes::SignalChanges;
-use cpu8086::{Cpu, Kind, Phase, Turn, physical};
+use crate::stretch::first_death;
+use arrayvec::ArrayVec;
+use cpu8086::{Cpu, Kind, Phase, physical};
 use i86_table::Segment;
 use listing_map::{put_behind_turn, put_end_line, put_opcode_line, trace_line};
 use std::alloc::{AllocError, Global};
@@ -51,22 +56,20 @@ fn put_line<S: Sink>(watch: Watch<'_>, turn: u32, line: &[u8], sink: &mut S) -> 
     }
 }
 
-/// The line of a label, with its name where names are wanted.
-fn line_of(alloc: Global, watch: Watch<'_>, label: &Label) -> Result<Vec<u8>, AllocError> {
-    let mut line = Vec::new(alloc);
-    if trace_line(label, &mut WriterSink::new(&mut line)).is_err() {
+/// Makes the line of a label with its name.
+fn make_line(names: &[PlaceName<'_>], label: &Label, line: &mut Vec<u8>) -> Result<(), AllocError> {
+    line.clear();
+    if trace_line(label, &mut WriterSink::new(&mut *line)).is_err() {
         return Err(AllocError);
     }
-    if let Some(names) = watch.names {
-        let _end = line.pop();
-        put_place_name(alloc, &mut line, names, label)?;
-        line.push(b'\n')?;
-    }
-    Ok(line)
+    let _end = line.pop();
+    put_place_name(line, names, label)?;
+    line.push(b'\n')?;
+    Ok(())
 }
 
-fn put_label<S: Sink>(
-    alloc: Global,
+/// Writes the line of a label without a name.
+fn put_nameless<S: Sink>(
     watch: Watch<'_>,
     turn: u32,
     label: &Label,
@@ -74,90 +77,138 @@ fn put_label<S: Sink>(
 ) -> Result<(), Fault>
     ensures { IfErr result IsRunFault }
 {
-    let line = line_of(alloc, watch, label)?;
-    put_line(watch, turn, &line, sink)
+    let put = if watch.turns {
+        put_numbered(turn, label, sink)
+    } else {
+        listing_map::put_label(label, sink)
+    };
+    match put {
+        Ok(()) => Ok(()),
+        Err(_) => Err(CANNOT_WRITE),
+    }
+}
+
+/// Writes the line of a label. One with a name is made in `line`: so no memory is wanted for each.
+fn put_label<S: Sink>(
+    watch: Watch<'_>,
+    turn: u32,
+    label: &Label,
+    line: &mut Vec<u8>,
+    sink: &mut S,
+) -> Result<(), Fault>
+    ensures { IfErr result IsRunFault }
+{
+    let Some(names) = watch.names else {
+        return put_nameless(watch, turn, label, sink);
+    };
+    match make_line(names, label, line) {
+        Ok(()) => put_line(watch, turn, line.as_slice(), sink),
+        Err(_) => Err(Fault::Memory),
+    }
 }
 
 fn put_labels<S: Sink>(
-    alloc: Global,
     watch: Watch<'_>,
     turn: u32,
     labels: &[Label],
+    line: &mut Vec<u8>,
     sink: &mut S,
 ) -> Result<(), Fault>
     ensures { IfErr result IsRunFault }
 {
     for label in labels {
-        put_label(alloc, watch, turn, label, sink)?;
+        if let Err(fault) = put_label(watch, turn, label, line, sink) {
+            return Err(fault);
+        }
     }
     Ok(())
 }
 
 fn put_events<S: Sink>(
-    alloc: Global,
     watch: Watch<'_>,
     turn: u32,
     events: &[Event],
+    line: &mut Vec<u8>,
     sink: &mut S,
 ) -> Result<(), Fault>
     ensures { IfErr result IsRunFault }
 {
     for event in events {
-        put_label(alloc, watch, turn, &event.label(), sink)?;
+        if let Err(fault) = put_label(watch, turn, &event.label(), line, sink) {
+            return Err(fault);
+        }
     }
     Ok(())
 }
 
-/// Writes the line of the stop.
-fn put_stop<S: Sink>(
-    alloc: Global,
-    watch: Watch<'_>,
-    turns: u32,
-    sink: &mut S,
-) -> Result<WatchedEnd, Fault>
-    ensures turns { IfOk result (λ e. e.turns ≡ turns) }
-    ensures fault { IfErr result IsRunFault }
-{
-    let mut line = Vec::new(alloc);
-    if put_end_line(turns, &mut WriterSink::new(&mut line)).is_err() {
-        return Err(Fault::Memory);
+/// Makes the last line of a run, of which the number in front is that of the turn before the last one where bytes were no instruction.
+fn make_last_line(end: WatchedEnd, line: &mut Vec<u8>) -> Result<u32, AllocError> {
+    line.clear();
+    let sink = &mut WriterSink::new(&mut *line);
+    let (put, turn) = match end.end {
+        End::Stopped => (put_end_line(end.turns, sink), end.turns),
+        End::Opcode(address) => (put_opcode_line(address, sink), end.turns.saturating_sub(1)),
+    };
+    match put {
+        Ok(()) => Ok(turn),
+        Err(_) => Err(AllocError),
     }
-    put_line(watch, turns, &line, sink)?;
-    Ok(WatchedEnd {
-        end: End::Stopped,
-        turns,
-    })
 }
 
-/// Writes the line of bytes that are no instruction, which the last of so many turns met.
-fn put_opcode<S: Sink>(
-    alloc: Global,
+/// Writes the line of a run's end, and answers that end.
+fn put_end<S: Sink>(
     watch: Watch<'_>,
-    turns: u32,
-    address: u32,
+    end: WatchedEnd,
+    line: &mut Vec<u8>,
     sink: &mut S,
 ) -> Result<WatchedEnd, Fault>
-    ensures turns { IfOk result (λ e. e.turns ≡ turns) }
+    ensures same { IfOk result (λ e. e ≡ end) }
     ensures fault { IfErr result IsRunFault }
 {
-    let mut line = Vec::new(alloc);
-    if put_opcode_line(address, &mut WriterSink::new(&mut line)).is_err() {
-        return Err(Fault::Memory);
-    }
-    put_line(watch, turns.saturating_sub(1), &line, sink)?;
-    Ok(WatchedEnd {
-        end: End::Opcode(address),
-        turns,
-    })
+    let turn = make_last_line(end, line)?;
+    put_line(watch, turn, line.as_slice(), sink)?;
+    Ok(end)
 }
 
 /// Whether a processor waits for an interrupt, and lets none in.
-fn waits_for_nothing(cpu: &Cpu) -> bool
+pub(crate) fn waits_for_nothing(cpu: &Cpu) -> bool
     ensures { result ≡ is_dead cpu.now }
 {
     match cpu.phase {
         Phase::Halted => !cpu.registers.lets_interrupts_in(),
         Phase::Running | Phase::AfterSti | Phase::Stopped(_) => false,
+    }
+}
+
+/// The end of a run before this turn.
+fn stopped(turn: u32) -> WatchedEnd
+    ensures { result.turns ≡ turn }
+{
+    WatchedEnd {
+        end: End::Stopped,
+        turns: turn,
+    }
+}
+
+/// The end of a run whose last turn met bytes that are no instruction.
+fn met(address: u32, turns: u32) -> WatchedEnd
+    ensures { result.turns ≡ turns }
+{
+    WatchedEnd {
+        end: End::Opcode(address),
+        turns,
+    }
+}
+
+/// The turn before which an address is looked for again, at which the run stops; or where the turns end.
+fn next_look(stop_at: Option<u32>, turn: u32, to: u32) -> u32
+    requires { turn < to }
+    ensures later { turn < result }
+    ensures within { result ≤ to }
+{
+    match stop_at {
+        Some(_) => turn + 1,
+        None => to,
     }
 }
 
@@ -183,76 +234,172 @@ impl Board {
         waits_for_nothing(&self.cpu)
     }
 
-    /// Makes the turns of a schedule from one on up to its stop or until the board is dead, each of them singly, and answers which turn would be
-    /// next.
-    pub fn turn_of_death(&mut self, schedule: &Schedule, from: u32) -> u32
-        requires { from ≤ schedule.now.stop }
-        ensures after { from ≤ result }
-        ensures within { result ≤ schedule.now.stop }
-        ensures state { (b : State (World ChipState)) → Shows self.old (board_after (due_of schedule.now) from b) → Shows self.new (board_after (due_of schedule.now) result b) }
-        ensures dead { (b : State (World ChipState)) → Shows self.old (board_after (due_of schedule.now) from b) → result < schedule.now.stop → is_dead (board_after (due_of schedule.now) result b).cpu ≡ true }
-        ensures first { (b : State (World ChipState)) → Shows self.old (board_after (due_of schedule.now) from b) → (k : ℕ) → from ≤ k → k < result → is_dead (board_after (due_of schedule.now) k b).cpu ≡ false }
+    /// After a run of so many turns: the first turn at whose beginning the processor waited with interrupts off, up to the turn that would
+    /// come next. `None` says that the processor never did.
+    pub fn turn_of_death(&self, turns: u32) -> Option<u32>
+        ensures { (due : ℕ → List Event) (b : State (World ChipState)) → Stands due b turns self.now → FirstDead due b (turns + 1) result }
     {
-        let mut turn = from;
-        while turn < schedule.stop() {
-            if self.is_dead() {
-                return turn;
-            }
-            let _made = self.turn(schedule.due(turn));
-            turn += 1;
-        }
-        turn
+        first_death(self.died, turns, self.is_dead())
     }
 
-    /// A turn with its lines, and what changed in it.
-    fn watched_turn<S: Sink>(
-        &mut self,
-        alloc: Global,
+    /// Writes what changed in a turn, where that is wanted, and the turn's lines.
+    fn tell_turn<S: Sink, W: Sink>(
+        &self,
+        watch: Watch<'_>,
         turn: u32,
         events: &[Event],
-        watch: Watch<'_>,
+        labels: &[Label],
+        line: &mut Vec<u8>,
         changes: &mut SignalChanges,
+        waves: &mut W,
         sink: &mut S,
-    ) -> Result<Kind, Fault>
-        ensures state { (b : State (World ChipState)) → Shows self.old b → Shows self.new (board_turn events.now b).0 }
+    ) -> Result<(), Fault>
+        ensures { IfErr result IsRunFault }
+    {
+        if changes.may_change(events, labels) {
+            let interrupt = self.attached.ports.int_line();
+            changes.note_turn(turn, events, labels, interrupt, waves)?;
+        }
+        match put_events(watch, turn, events, line, sink) {
+            Ok(()) => put_labels(watch, turn, labels, line, sink),
+            Err(fault) => Err(fault),
+        }
+    }
+
+    /// The turns from one to before another, none of which has events, with their lines; and how the run ended, if it ended before one of
+    /// them. Those in which the processor waits are not made. Where an address is given at which the run stops, it is looked for at each turn.
+    fn watch_quietly<S: Sink, W: Sink>(
+        &mut self,
+        from: u32,
+        to: u32,
+        watch: Watch<'_>,
+        labels: &mut ArrayVec<Label, 4>,
+        line: &mut Vec<u8>,
+        changes: &mut SignalChanges,
+        waves: &mut W,
+        sink: &mut S,
+    ) -> Result<Option<WatchedEnd>, Fault>
+        requires order { from ≤ to }
+        requires none { labels.old.items ≡ [] }
+        ensures empty { IfOk result (λ _. labels.new.items ≡ []) }
+        ensures within { IfOk result (IsWithin to) }
+        ensures stands { (due : ℕ → List Event) → ((t : ℕ) → from ≤ t → t < to → due t ≡ []) → (b : State (World ChipState)) → Stands due b from self.old → IfOk result (StandsBy due b to self.new) }
         ensures fault { IfErr result IsRunFault }
     {
-        let Turn { labels, kind } = self.turn(events);
-        let line = self.attached.ports.int_line();
-        changes.note_turn(turn, events, labels.as_slice(), line)?;
-        put_events(alloc, watch, turn, events, sink)?;
-        put_labels(alloc, watch, turn, labels.as_slice(), sink)?;
-        Ok(kind)
+        let mut turn = from;
+        while turn < to {
+            if self.stands_at(watch.stop_at) {
+                return Ok(Some(stopped(turn)));
+            }
+            let next = next_look(watch.stop_at, turn, to);
+            let made = self.stretch(turn, next, labels);
+            turn += made.turns;
+            let shown = labels.as_slice();
+            self.tell_turn(watch, turn - 1, &[], shown, line, changes, waves, sink)?;
+            labels.clear();
+            match made.kind {
+                Kind::Ack | Kind::Instr => {}
+                Kind::Wait => return Ok(None),
+                Kind::Opcode(address) => return Ok(Some(met(address, turn))),
+            }
+        }
+        Ok(None)
+    }
+
+    /// A turn with its events, and then the turns to before another, none of which has events; and how the run ended, if it ended before
+    /// one of them.
+    fn watch_stretch<S: Sink, W: Sink>(
+        &mut self,
+        turn: u32,
+        events: &[Event],
+        end: u32,
+        watch: Watch<'_>,
+        labels: &mut ArrayVec<Label, 4>,
+        line: &mut Vec<u8>,
+        changes: &mut SignalChanges,
+        waves: &mut W,
+        sink: &mut S,
+    ) -> Result<Option<WatchedEnd>, Fault>
+        requires order { turn < end }
+        requires none { labels.old.items ≡ [] }
+        ensures empty { IfOk result (λ _. labels.new.items ≡ []) }
+        ensures within { IfOk result (IsWithin end) }
+        ensures stands { (due : ℕ → List Event) → due turn ≡ events.now → ((t : ℕ) → turn < t → t < end → due t ≡ []) → (b : State (World ChipState)) → Stands due b turn self.old → IfOk result (StandsBy due b end self.new) }
+        ensures fault { IfErr result IsRunFault }
+    {
+        if self.stands_at(watch.stop_at) {
+            return Ok(Some(stopped(turn)));
+        }
+        let kind = self.eventful_turn(turn, events, labels);
+        let shown = labels.as_slice();
+        self.tell_turn(watch, turn, events, shown, line, changes, waves, sink)?;
+        labels.clear();
+        if let Kind::Opcode(address) = kind {
+            return Ok(Some(met(address, turn + 1)));
+        }
+        self.watch_quietly(turn + 1, end, watch, labels, line, changes, waves, sink)
+    }
+
+    /// The turns of a schedule, and how the run ended.
+    fn watch_turns<S: Sink, W: Sink>(
+        &mut self,
+        schedule: &Schedule,
+        watch: Watch<'_>,
+        line: &mut Vec<u8>,
+        changes: &mut SignalChanges,
+        waves: &mut W,
+        sink: &mut S,
+    ) -> Result<WatchedEnd, Fault>
+        ensures within { IfOk result (λ e. e.turns ≤ schedule.now.stop) }
+        ensures stands { (b : State (World ChipState)) → Stands (due_of schedule.now) b 0 self.old → IfOk result (λ e. Stands (due_of schedule.now) b e.turns self.new) }
+        ensures fault { IfErr result IsRunFault }
+    {
+        let mut labels = ArrayVec::new();
+        let mut turn = 0;
+        while turn < schedule.stop() {
+            let pause = schedule.next_pause(turn);
+            let events = schedule.due(turn);
+            let end = self.watch_stretch(
+                turn,
+                events,
+                pause,
+                watch,
+                &mut labels,
+                line,
+                changes,
+                waves,
+                sink,
+            )?;
+            if let Some(end) = end {
+                return Ok(end);
+            }
+            turn = pause;
+        }
+        Ok(stopped(turn))
     }
 
     /// Runs turns as `run` does, and writes the lines of its trace, each as it is wanted. Where the run comes to the address at which it is
-    /// to stop, it ends there as at a schedule's stop. It takes some ten times as long for each instruction, and makes each turn in which the
-    /// processor waits. It takes memory for each line, and for the changes where they are wanted.
+    /// to stop, it ends there as at a schedule's stop. What changes on lines and ports is noted where that is wanted, and its text goes to
+    /// `waves` as it comes. The memory that is taken does not grow with the run.
     ///
-    /// Its refusals are want of memory, and E704 where the sink failed.
-    pub fn run_watched<S: Sink>(
+    /// Its refusals are want of memory, and E704 where one of the sinks failed.
+    pub fn run_watched<S: Sink, W: Sink>(
         &mut self,
         alloc: Global,
         schedule: &Schedule,
         watch: Watch<'_>,
         changes: &mut SignalChanges,
+        waves: &mut W,
         sink: &mut S,
     ) -> Result<WatchedEnd, Fault>
         ensures within { IfOk result (λ e. e.turns ≤ schedule.now.stop) }
         ensures state { IfOk result (λ e. (b : State (World ChipState)) → Shows self.old b → Shows self.new (board_after (due_of schedule.now) e.turns b)) }
+        ensures died { IfOk result (λ e. (b : State (World ChipState)) → Shows self.old b → Stands (due_of schedule.now) b e.turns self.new) }
         ensures fault { IfErr result IsRunFault }
     {
-        let mut turn = 0;
-        while turn < schedule.stop() {
-            if self.stands_at(watch.stop_at) {
-                return put_stop(alloc, watch, turn, sink);
-            }
-            let kind = self.watched_turn(alloc, turn, schedule.due(turn), watch, changes, sink)?;
-            turn += 1;
-            if let Kind::Opcode(address) = kind {
-                return put_opcode(alloc, watch, turn, address, sink);
-            }
-        }
-        put_stop(alloc, watch, turn, sink)
+        self.died = None;
+        let mut line = Vec::new(alloc);
+        let end = self.watch_turns(schedule, watch, &mut line, changes, waves, sink)?;
+        put_end(watch, end, &mut line, sink)
     }
 }

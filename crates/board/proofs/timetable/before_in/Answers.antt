@@ -1,4 +1,4 @@
-use Rattle.std.proofs.Common.{rules, ◌<◌, ℕ, ltb, ltb-true, ltb-false, arith}
+use Rattle.std.proofs.Common.{rules, ℕ, ltb, ltb-true, ltb-false, arith}
 use Rattle.std.proofs.lemmas.List.Sorted.{IsPartitionPoint-from_clause, IsPartitionedBy-ltb}
 use Rattle.board.proofs.timetable.before_in.Goals as goal
 

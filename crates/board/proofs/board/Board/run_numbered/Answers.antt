@@ -1,40 +1,22 @@
-use Rattle.std.proofs.Common.{◌≡◌, ◌<◌, sym, arith}
+use Rattle.std.proofs.Common.{refl}
 use Rattle.board.specs.Run.{due_of}
-use Rattle.board.specs.declared.run.End.TheVariants.{Opcode}
-use Rattle.board.proofs.Counted.{counted_next, counted_opcode, counted_stops, counted_fails, counted_fails_at_stop}
+use Rattle.board.proofs.Counted.{counted_closes}
+use Rattle.board.proofs.Stretches.{lived_ends, lived_none, shows_same}
 use Rattle.board.proofs.board.Board.run_numbered.Goals as goal
 
-pub loop-turn-preserved : goal.loop-turn-preserved
-loop-turn-preserved g c = record {
-  within = omega (arith, c.loop-turn-test.true, c.stop.ensures);
-  empty = c.numbered_turn.ensures.empty;
-  far = λ b h. counted_next (due_of c.args.schedule.now) b c.loop-turn.turn _ _ _ _ _ _ _ _ (c.loop-turn.invariant.far b h)
-      (λ s k. rw (sym c.due.ensures) (c.numbered_turn.ensures.state s k))
-      (λ s k. rw (sym c.due.ensures) (c.in-Next.ensures.text s k))
-      (λ s k. rw (sym c.due.ensures) (c.in-Next.ensures.end s k));
-}
+pub returns-in-Next-clause-run : goal.returns-in-Next-clause-run
+returns-in-Next-clause-run g c = λ b h. counted_closes (due_of c.args.schedule.now) b c.args.schedule.now.stop _ _ _ _ _ _ _ c.put_stop.result (c.in-Next.ensures.counted b (shows_same c.args.self.now _ b refl refl h)) (rw c.stop.ensures at c.put_stop.ensures.text) c.put_stop.ensures.end
 
 pub returns-in-Opcode-clause-run : goal.returns-in-Opcode-clause-run
-returns-in-Opcode-clause-run g c = λ b h.
-    let lt : c.loop-turn.turn < c.args.schedule.now.stop = omega (arith, c.loop-turn-test.true, c.stop.ensures) in
-    counted_opcode (due_of c.args.schedule.now) b c.args.schedule.now.stop c.loop-turn.turn _ _ _ _ _ _ _ _ (Opcode c.in-Opcode.address) lt (c.loop-turn.invariant.far b h)
-    (λ s k. rw (sym c.due.ensures) (c.numbered_turn.ensures.state s k))
-    (λ s k. rw (sym c.due.ensures) (c.in-Opcode.ensures.text s k))
-    (λ s k. rw (sym c.due.ensures) (c.in-Opcode.ensures.end s k))
+returns-in-Opcode-clause-run g c = λ b h. c.in-Opcode.ensures.counted b (shows_same c.args.self.now _ b refl refl h)
 
 pub returns-in-Broken-clause-run : goal.returns-in-Broken-clause-run
-returns-in-Broken-clause-run g c = λ b h.
-    let lt : c.loop-turn.turn < c.args.schedule.now.stop = omega (arith, c.loop-turn-test.true, c.stop.ensures) in
-    counted_fails (due_of c.args.schedule.now) b c.args.schedule.now.stop c.loop-turn.turn _ _ _ _ _ _ _ _ lt (c.loop-turn.invariant.far b h)
-    (λ s k. rw (sym c.due.ensures) (c.numbered_turn.ensures.state s k))
-    (λ s k. rw (sym c.due.ensures) (c.in-Broken.ensures.text s k))
+returns-in-Broken-clause-run g c = λ b h. c.in-Broken.ensures.counted b (shows_same c.args.self.now _ b refl refl h)
 
-pub returns-in-Ok-clause-run : goal.returns-in-Ok-clause-run
-returns-in-Ok-clause-run g c = λ b h.
-    let end : c.loop-turn.turn ≡ c.args.schedule.now.stop = omega (arith, c.loop-turn-test.false, c.loop-turn.invariant.within, c.stop.ensures) in
-    counted_stops (due_of c.args.schedule.now) b c.args.schedule.now.stop _ _ _ _ _ _ _ (rw end at (c.loop-turn.invariant.far b h)) (rw c.stop-2.ensures at c.in-Ok.ensures)
+pub returns-in-Next-clause-died : goal.returns-in-Next-clause-died
+returns-in-Next-clause-died g c = λ b h.
+    lived_ends (due_of c.args.schedule.now) b c.args.schedule.now.stop _ c.put_stop.result c.put_stop.ensures.end
+    (c.in-Next.ensures.lasted b (lived_none (due_of c.args.schedule.now) b _ (shows_same c.args.self.now _ b refl refl h) refl))
 
-pub returns-in-Err-clause-run : goal.returns-in-Err-clause-run
-returns-in-Err-clause-run g c = λ b h.
-    let end : c.loop-turn.turn ≡ c.args.schedule.now.stop = omega (arith, c.loop-turn-test.false, c.loop-turn.invariant.within, c.stop.ensures) in
-    counted_fails_at_stop (due_of c.args.schedule.now) b c.args.schedule.now.stop _ _ _ _ _ _ _ (rw end at (c.loop-turn.invariant.far b h)) (rw c.stop-2.ensures at c.in-Err.ensures)
+pub returns-in-Opcode-clause-died : goal.returns-in-Opcode-clause-died
+returns-in-Opcode-clause-died g c = λ b h. c.in-Opcode.ensures.lasted b (lived_none (due_of c.args.schedule.now) b _ (shows_same c.args.self.now _ b refl refl h) refl)

@@ -1,4 +1,4 @@
-use Rattle.std.proofs.Common.{ℕ, ◌∙◌, ◌-◌, List, ap, sym, take, drop, arith}
+use Rattle.std.proofs.Common.{◌∙◌, ◌-◌, List, ap, sym, take, drop, arith}
 use Rattle.word86.specs.declared.event.Event.{Event}
 use Rattle.board.proofs.Cuts.{due_between}
 use Rattle.board.proofs.timetable.Timetable.due_behind.Goals as goal

@@ -1,4 +1,4 @@
-use Rattle.std.proofs.Common.{ℕ, ◌≡◌, ◌<◌, slice_index, length, sym, rules, arith}
+use Rattle.std.proofs.Common.{◌≡◌, slice_index, length, sym, rules, arith}
 use Rattle.std.proofs.lemmas.List.{get_or_read_under}
 use Rattle.board.proofs.Cuts.{due_none, gap, no_gap}
 use Rattle.board.proofs.timetable.Timetable.turn_behind.Goals as goal
