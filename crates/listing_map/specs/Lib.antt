@@ -7,3 +7,4 @@ pub mod Padding
 pub mod ProgramMap
 pub mod Records
 pub mod SourceListing
+pub mod Window

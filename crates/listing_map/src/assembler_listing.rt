@@ -28,12 +28,15 @@ use mnemonics::{put_instruction, put_number};
 use plm_decl::{Names, Statement};
 use plm_type::{Program, Statement as Typed};
 use rounds::note_all;
-use select::{RowPlaces, select};
+use select::{Entry, Part, RowPlaces};
 use std::alloc::{AllocError, Global};
 use word86::{Fault, Width};
 
-/// The columns that the bytes of an instruction take.
-const BYTES_WIDTH: usize = 24;
+/// A line of more bytes stands once, where its first code comes; after that two periods stand for it.
+const LONG: usize = 160;
+
+/// As many blanks as the bytes of an instruction take columns.
+const BLANKS: &[u8; 24] = b"                        ";
 
 /// What a listing is of, and where the parts begin in the ROM.
 #[derive(Clone, Copy)]
@@ -75,10 +78,24 @@ fn front(bytes: &[u8]) -> Option<(Instr, usize)>
     Some((instruction, length))
 }
 
-/// Where the parts begin in the ROM of a program: behind start-up.
+/// Parts without bytes, one for each vector that a procedure serves.
+fn entries(alloc: Global, code: &Code) -> Result<Vec<Part>, AllocError> {
+    let mut parts = Vec::new(alloc);
+    for vector in 0..=u8::MAX {
+        if let Routine::Procedure(_) = code.serving(vector) {
+            parts.push(Part {
+                entry: Entry::Vector(vector),
+                bytes: Vec::new(alloc),
+                fixups: Vec::new(alloc),
+            })?;
+        }
+    }
+    Ok(parts)
+}
+
+/// Where the parts begin in the ROM of a program: behind start-up, whose length goes by what leads into the parts and not by their bytes.
 fn parts_begin(alloc: Global, names: &Names, code: &Code) -> Result<usize, Fault> {
-    let parts = select(alloc, code)?;
-    Ok(start_up_room(alloc, &parts, names)?.code)
+    Ok(start_up_room(alloc, &entries(alloc, code)?, names)?.code)
 }
 
 /// The statements of a routine.
@@ -120,12 +137,10 @@ fn declared_at(names: &Names, routine: Routine) -> (usize, Option<u32>) {
 /// Adds bytes in hexadecimal, and blanks up to the column of the next one.
 fn put_bytes(text: &mut Noted<u8>, bytes: &[u8]) {
     for byte in bytes {
-        text.add(b' ');
-        text.put(&hex_byte(*byte));
+        let [high, low] = hex_byte(*byte);
+        text.put(&[b' ', high, low]);
     }
-    for _column in bytes.len().saturating_mul(3)..BYTES_WIDTH {
-        text.add(b' ');
-    }
+    text.put(&BLANKS[bytes.len().saturating_mul(3).min(BLANKS.len())..]);
 }
 
 /// The lines of a text.
@@ -350,6 +365,18 @@ struct Writing<'p, 'a> {
 }
 
 impl Writing<'_, '_> {
+    /// Of a long line only the first mention has the text: what is written for the others stays in proportion to the code.
+    fn shorten(&mut self, module: usize, line: u32) {
+        let Some(own) = self.lines.get_mut(module) else {
+            return;
+        };
+        if let Some(text) = own.get_mut((line as usize).saturating_sub(1)) {
+            if text.len() > LONG {
+                *text = b"..";
+            }
+        }
+    }
+
     /// Adds a line of a source, unless it stands above already.
     fn put_source(&mut self, module: usize, line: u32) {
         if self.above == Some(line) {
@@ -363,6 +390,7 @@ impl Writing<'_, '_> {
         self.text.put(b"  ");
         self.text.put(source_line(&self.lines, module, line));
         self.text.add(b'\n');
+        self.shorten(module, line);
         self.above = Some(line);
     }
 

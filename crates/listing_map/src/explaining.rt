@@ -39,9 +39,9 @@ mod type_faults;
 mod uses;
 pub(crate) mod value_types;
 
-ghost use Rattle.std.specs.Prelude.{◌≡◌, ◌<◌, ◌≤◌, ◌+◌, true, IfOk, map, length};
+ghost use Rattle.std.specs.Prelude.{◌≡◌, ◌<◌, ◌≤◌, ◌+◌, false, true, None, IfOk, map, length};
 ghost use Rattle.plm_token.specs.Scanner.{lexemes};
-ghost use Rattle.listing_map.specs.Explaining.{IsMark, has_token, text_at, text_of, quoted_line};
+ghost use Rattle.listing_map.specs.Explaining.{IsMark, has_token, is_text, text_at, text_of, quoted_line};
 
 use crate::phase_faults::{FaultAt, TokenAt};
 use crate::texts::NamedText;
@@ -51,6 +51,7 @@ use grammar::{TokenFault, syntax_fault, token_fault};
 use kinds::{CallFault, FaultKind, NameFault, RunFault, kind_of};
 use lines::line_at;
 use name_faults::{At, bad_base, declared_twice, misplaced, undeclared, values_misfit};
+use nearest::compared_names;
 use pages::{Page, pages_of};
 use phases::{GoneThrough, TypedSources, Work, gone_through};
 use plm_token::Token;
@@ -58,7 +59,7 @@ use program_faults::{mains, too_much_data, two_handlers, two_publics, unjoined};
 use reason::TypeFault;
 pub use room::Compiled;
 use room::{full_rom, full_stack};
-use runs::{no_stop, rom_length, schedule_line, schedule_order};
+use runs::{is_text, no_stop, no_text, rom_length, schedule_line, schedule_order};
 use sentence::Part;
 use std::alloc::{AllocError, Global};
 use studied::Studied;
@@ -92,6 +93,8 @@ pub struct Explainer<'s, 'a> {
     pages: Vec<Page<'a>>,
     compiled: Option<Compiled<'s>>,
     gone: GoneThrough<'a>,
+    /// So many names are compared with an unknown one.
+    compared: usize,
 }
 
 /// A fault that is explained, and the line on which it stands.
@@ -162,6 +165,7 @@ impl<'e, 's, 'a> Case<'e, 's, 'a> {
             module,
             named: program.modules.get(module)?,
             token: self.token_at()?,
+            compared: self.explainer.compared,
         })
     }
 
@@ -264,19 +268,25 @@ impl<'e, 's, 'a> Case<'e, 's, 'a> {
 }
 
 /// What is told of a fault of a schedule or a ROM.
-fn told_of_run(
-    alloc: Global,
-    file: &[u8],
-    quoted: &[u8],
-    line: u32,
-    number: Number,
-) -> Result<Told, Fault> {
+fn told_of_run(alloc: Global, file: &[u8], quoted: &[u8], line: u32, fault: RunFault) -> Told
+    ensures { is_text file.now ≡ false → result.mark ≡ None }
+{
+    match fault {
+        RunFault::RomLength => rom_length(alloc, file.len()),
+        RunFault::Unwritten => tell(alloc, None, &[Part::Words(UNWRITTEN)]),
+        RunFault::Line | RunFault::Order | RunFault::NoStop if !is_text(file) => no_text(alloc),
+        RunFault::Line => schedule_line(alloc, quoted),
+        RunFault::Order => schedule_order(alloc, file, quoted, line),
+        RunFault::NoStop => no_stop(alloc),
+    }
+}
+
+/// What is told of a fault with this number, where it is one of a schedule or a ROM.
+fn told_if_of_run(alloc: Global, file: &[u8], quoted: &[u8], line: u32, number: Number) -> Told
+    ensures { is_text file.now ≡ false → result.mark ≡ None }
+{
     match kind_of(number) {
-        FaultKind::Run(RunFault::Line) => schedule_line(alloc, quoted),
-        FaultKind::Run(RunFault::Order) => schedule_order(alloc, file, quoted, line),
-        FaultKind::Run(RunFault::NoStop) => Ok(no_stop(alloc)),
-        FaultKind::Run(RunFault::Unwritten) => Ok(tell(alloc, None, &[Part::Words(UNWRITTEN)])),
-        FaultKind::Run(RunFault::RomLength) => Ok(rom_length(alloc, file.len())),
+        FaultKind::Run(fault) => told_of_run(alloc, file, quoted, line, fault),
         FaultKind::Words(_)
         | FaultKind::Text(_)
         | FaultKind::Syntax
@@ -287,7 +297,7 @@ fn told_of_run(
         | FaultKind::Types(_)
         | FaultKind::Calls(_)
         | FaultKind::Stack
-        | FaultKind::Rom => Ok(tell(alloc, None, &[])),
+        | FaultKind::Rom => tell(alloc, None, &[]),
     }
 }
 
@@ -312,7 +322,8 @@ fn or_pages(alloc: Global, help: Vec<u8>) -> Result<Vec<u8>, AllocError>
 
 /// The column and the width of a mark, as far as they lie in so many bytes.
 fn marked(length: usize, mark: Option<Mark>) -> (usize, usize)
-    ensures { result.0 + result.1 ≤ length }
+    ensures inside { result.0 + result.1 ≤ length }
+    ensures nothing { mark ≡ None → result.1 ≡ 0 }
 {
     let Some(mark) = mark else {
         return (0, 0);
@@ -383,11 +394,13 @@ impl<'s, 'a> Explainer<'s, 'a> {
     {
         let pages = pages_of(alloc, sources)?;
         let gone = gone_through(alloc, sources, kind_of(number).phase())?;
+        let compared = compared_names(gone.faults.len());
         Ok(Explainer {
             alloc,
             pages,
             compiled,
             gone,
+            compared,
         })
     }
 
@@ -469,8 +482,8 @@ pub fn explain<'s, 'a>(
     explained
 }
 
-/// Explains a fault at a line of a schedule, E701 to E703, or of a ROM, E705. Of any other number the sentence says where to read. Want of
-/// memory is its one error.
+/// Explains a fault at a line of a schedule, E701 to E703, or of a ROM, E705. Of any other number the sentence says where to read. Nothing is
+/// marked in a file that is not a text, as a ROM. Want of memory is its one error.
 pub fn explain_run<'a>(
     alloc: Global,
     file: &'a [u8],
@@ -478,10 +491,11 @@ pub fn explain_run<'a>(
     number: Number,
 ) -> Result<Explanation<'a>, AllocError>
     ensures quotes { IfOk result (λ e. e.quoted.now ≡ quoted_line file.entry.now line) }
+    ensures hides { is_text file.entry.now ≡ false → IfOk result (λ e. e.width ≡ 0) }
     ensures answers { IfOk result (λ e. 0 < length e.help.items) }
 {
     let quoted = line_at(file, line);
-    let told = without_fault(alloc, told_of_run(alloc, file, quoted, line, number))?;
+    let told = told_if_of_run(alloc, file, quoted, line, number);
     let (column, width) = marked(quoted.len(), told.mark);
     let help = or_pages(alloc, told.help.whole()?)?;
     Ok(Explanation {

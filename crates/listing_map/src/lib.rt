@@ -17,9 +17,11 @@ mod pieces;
 mod program_map;
 mod records;
 mod routines;
+mod shown;
 mod source_listing;
 mod stack_paths;
 mod texts;
+mod window;
 
 pub use assembler_listing::code_listing;
 pub use explaining::{
@@ -31,7 +33,7 @@ pub use lines::{
     put_turn_number, trace_line,
 };
 pub use linting::{Lint, lints};
-pub use messages::{NOWHERE, Place, explained_lines, number_and_words, object_line};
+pub use messages::{NOWHERE, Place, explained_lines, note_line, number_and_words, object_line};
 pub use padding::padded_rom;
 pub use phase_faults::{FaultAt, TokenAt};
 pub use program_map::map;

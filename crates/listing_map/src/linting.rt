@@ -1,7 +1,7 @@
 //! Notes on what compiles and is mostly a mistake: those of `--lint`.
 //!
-//! The sources have no fault. Their names are resolved once more, over tokens whose lines are their numbers, so that each note names its
-//! token. Texts have no contract: `tests/mistakes` shows them.
+//! The sources have no fault, and their names are at hand. What is found names its token by its place once literals are replaced; where
+//! that stands in its text is looked up once something is found. Texts have no contract: `tests/mistakes` shows them.
 
 mod constants;
 mod guards;
@@ -12,11 +12,12 @@ mod walk;
 
 use crate::explaining::reason::operator_name;
 use crate::explaining::sentence::{Part, sentence};
-use crate::explaining::studied::{Studied, names_of, study};
+use crate::explaining::studied::{Studied, number_of, study};
 use crate::noted::Noted;
 use crate::texts::NamedText;
 use plm_decl::Names;
-use plm_syntax::BinaryOperator;
+use plm_syntax::{BinaryOperator, expand};
+use plm_token::scan;
 use returning::add_without_return;
 use std::alloc::{AllocError, Global};
 use unused::add_unused;
@@ -40,12 +41,20 @@ pub(crate) enum Finding {
     Unguarded(BinaryOperator),
 }
 
-/// A finding, with its module and its token there.
+/// A finding, with its module and the place of its token there, once literals are replaced.
 #[derive(Clone, Copy)]
 pub(crate) struct Found {
     pub module: usize,
-    pub number: u32,
+    pub place: usize,
     pub finding: Finding,
+}
+
+/// A finding, with its module and the number of its token among those of the text, from 1 on.
+#[derive(Clone, Copy)]
+struct Numbered {
+    module: usize,
+    number: u32,
+    finding: Finding,
 }
 
 /// A note on a token.
@@ -117,25 +126,61 @@ fn words_of(alloc: Global, name: &[u8], finding: Finding) -> Noted<u8> {
     sentence(alloc, &[name, Part::Words(words)])
 }
 
-/// What is found in all modules, in the order of modules and tokens.
-fn all_found(
+/// Adds the names that a module declares and does not use.
+fn add_unused_in(
     alloc: Global,
-    sources: &[Studied<'_>],
-    names: &Names,
-) -> Result<Vec<Found>, AllocError> {
+    source: &NamedText<'_>,
+    module: usize,
+    noted: &mut Noted<Found>,
+) -> Result<(), Fault> {
+    let expansion = expand(alloc, scan(alloc, source.text)?)?;
+    add_unused(alloc, &expansion.tokens, module, noted)?;
+    Ok(())
+}
+
+/// What is found in all modules.
+fn all_found(alloc: Global, sources: &[NamedText<'_>], names: &Names) -> Result<Vec<Found>, Fault> {
     let mut noted = Noted::new(alloc);
     add_walked(alloc, names, &mut noted);
     add_without_return(alloc, names, &mut noted)?;
     for (module, source) in sources.iter().enumerate() {
-        add_unused(alloc, source, module, &mut noted)?;
+        add_unused_in(alloc, source, module, &mut noted)?;
     }
-    let mut found = noted.whole()?;
-    found.sort_by_key(|it: &Found| (it.module, it.number))?;
-    Ok(found)
+    Ok(noted.whole()?)
+}
+
+/// A finding by the number of its token.
+fn in_numbers(sources: &[Studied<'_>], found: Found) -> Option<Numbered> {
+    let token = sources.get(found.module)?.expanded.get(found.place)?;
+    Some(Numbered {
+        module: found.module,
+        number: number_of(token),
+        finding: found.finding,
+    })
+}
+
+/// These findings in the order of modules and tokens.
+fn in_order(
+    alloc: Global,
+    sources: &[Studied<'_>],
+    all: &[Found],
+) -> Result<Vec<Numbered>, AllocError> {
+    let mut ordered: Vec<Numbered> = Vec::new(alloc);
+    for found in all {
+        if let Some(finding) = in_numbers(sources, *found) {
+            ordered.push(finding)?;
+        }
+    }
+    ordered.sort_by_key(|it: &Numbered| (it.module, it.number))?;
+    Ok(ordered)
 }
 
 /// The note of a finding.
-fn lint_of<'a>(alloc: Global, source: &Studied<'a>, found: Found) -> Result<Lint<'a>, AllocError> {
+fn lint_of<'a>(
+    alloc: Global,
+    source: &Studied<'a>,
+    found: Numbered,
+) -> Result<Lint<'a>, AllocError> {
     let column = match source.spot(found.number) {
         Some(spot) => spot.column.saturating_add(1),
         None => 1,
@@ -152,7 +197,7 @@ fn lint_of<'a>(alloc: Global, source: &Studied<'a>, found: Found) -> Result<Lint
 fn lints_at<'a>(
     alloc: Global,
     sources: &[Studied<'a>],
-    all: &[Found],
+    all: &[Numbered],
 ) -> Result<Vec<Lint<'a>>, AllocError> {
     let mut lints = Vec::new(alloc);
     for found in all {
@@ -164,18 +209,28 @@ fn lints_at<'a>(
 }
 
 /// The notes of sources that have no fault, module by module and in the order of their tokens.
-fn lints_of<'a>(alloc: Global, sources: &[NamedText<'a>]) -> Result<Vec<Lint<'a>>, Fault> {
+fn lints_of<'a>(
+    alloc: Global,
+    sources: &[NamedText<'a>],
+    names: &Names,
+) -> Result<Vec<Lint<'a>>, Fault> {
+    let found = all_found(alloc, sources, names)?;
+    if found.is_empty() {
+        return Ok(Vec::new(alloc));
+    }
     let studied = study(alloc, sources)?;
-    let names = names_of(alloc, &studied)?;
-    let found = all_found(alloc, &studied, &names);
-    drop(names);
-    Ok(lints_at(alloc, &studied, &found?)?)
+    let ordered = in_order(alloc, &studied, &found)?;
+    Ok(lints_at(alloc, &studied, &ordered)?)
 }
 
-/// The notes of sources, module by module and in the order of their tokens; none where they have a fault of text, grammar or names. Of sources
+/// The notes of sources that have these names, module by module and in the order of their tokens; none where a text has a fault. Of sources
 /// with a fault of types a note may be false. Want of memory is its one error.
-pub fn lints<'a>(alloc: Global, sources: &[NamedText<'a>]) -> Result<Vec<Lint<'a>>, AllocError> {
-    match lints_of(alloc, sources) {
+pub fn lints<'a>(
+    alloc: Global,
+    sources: &[NamedText<'a>],
+    names: &Names,
+) -> Result<Vec<Lint<'a>>, AllocError> {
+    match lints_of(alloc, sources, names) {
         Ok(lints) => Ok(lints),
         Err(Fault::At(_, _, _)) => Ok(Vec::new(alloc)),
         Err(Fault::Memory) => Err(AllocError),

@@ -2,16 +2,18 @@
 //!
 //! That the quoted line and what is marked are of the source is the contract of `explain`, and that they are shown with the sentence that of
 //! `explained_lines`, which counts columns where a line is ASCII; other texts have none: `tests/mistakes` and `tests/pages` show them.
+//! The objects hold the texts as they are: JSON writes what a terminal could obey as a number.
 
-ghost use Rattle.std.specs.Prelude.{◌≡◌, ◌<◌, ◌≤◌, ◌+◌, true, IfOk, length, map, replicate};
-ghost use Rattle.listing_map.specs.Messages.{IsMarkLine, IsQuoted, IsTold, blank, is_ascii, margin, shown, shown_line};
+ghost use Rattle.std.specs.Prelude.{◌≡◌, ◌++◌, IfOk, replicate};
+ghost use Rattle.listing_map.specs.Messages.{IsMarkLine, IsQuoted, IsQuotedPart, IsTold, margin, note_line, shown_line, shown_text};
+ghost use Rattle.listing_map.specs.Lines.{line_end};
 
 use crate::explaining::Explanation;
+use crate::shown::{blanks, columns, shown_text};
+use crate::window::{Window, is_whole, window_of};
 use itoa::Buffer;
 use serde_json::{Map, Value, put};
 use std::alloc::{AllocError, Global};
-use std::str::from_utf8;
-use unicode_width::{UnicodeWidthChar, UnicodeWidthStr};
 use word86::Number;
 
 /// Where in its file a message stands: the line, and the column in bytes, both from 1 on.
@@ -108,103 +110,11 @@ fn times(alloc: Global, byte: u8, count: usize) -> Result<Vec<u8>, AllocError>
     Ok(vec![in alloc; byte; count]?)
 }
 
-/// Whether a text is ASCII throughout.
-fn is_ascii(text: &[u8]) -> bool
-    ensures { result ≡ is_ascii text.now }
-{
-    for byte in text {
-        if *byte >= 128 {
-            return false;
-        }
-    }
-    true
-}
-
-/// What is as wide as a byte of ASCII and shows nothing: a tab stays.
-fn blank(byte: u8) -> u8
-    ensures { result ≡ blank byte }
-{
-    if byte == b'\t' { b'\t' } else { b' ' }
-}
-
-/// Blanks that are as wide as a text of ASCII.
-fn blanks_of_bytes(alloc: Global, text: &[u8]) -> Result<Vec<u8>, AllocError>
-    ensures { IfOk result (λ v. v.items ≡ map blank text.now) }
-{
-    let mut blanks = Vec::new(alloc);
-    for byte in text {
-        blanks.push(blank(*byte))?;
-    }
-    Ok(blanks)
-}
-
-/// Adds blanks that are as wide as a character.
-fn put_blanks(blanks: &mut Vec<u8>, character: char) -> Result<(), AllocError> {
-    if character == '\t' {
-        return Ok(blanks.push(b'\t')?);
-    }
-    for _column in 0..character.width().unwrap_or(1) {
-        blanks.push(b' ')?;
-    }
-    Ok(())
-}
-
-/// Blanks that are as wide as a text of whatever characters.
-fn blanks_of_characters(alloc: Global, text: &[u8]) -> Result<Vec<u8>, AllocError> {
-    let Ok(characters) = from_utf8(text) else {
-        return blanks_of_bytes(alloc, text);
-    };
-    let mut blanks = Vec::new(alloc);
-    for character in characters.chars() {
-        put_blanks(&mut blanks, character)?;
-    }
-    Ok(blanks)
-}
-
-/// Blanks that are as wide as a text; its tabs stay.
-fn blanks(alloc: Global, text: &[u8]) -> Result<Vec<u8>, AllocError>
-    ensures { is_ascii text.now ≡ true → IfOk result (λ v. v.items ≡ map blank text.now) }
-{
-    if is_ascii(text) {
-        blanks_of_bytes(alloc, text)
-    } else {
-        blanks_of_characters(alloc, text)
-    }
-}
-
-/// How many columns a text takes, one at least.
-fn columns(text: &[u8]) -> usize
-    ensures least { 0 < result }
-    ensures bytes { is_ascii text.now ≡ true → 0 < length text.now → result ≡ length text.now }
-{
-    if is_ascii(text) {
-        return text.len().max(1);
-    }
-    match from_utf8(text) {
-        Ok(characters) => characters.width().max(1),
-        Err(_) => text.len().max(1),
-    }
-}
-
-/// A byte of a line as it is shown: no control character of ASCII but a tab.
-fn shown(byte: u8) -> u8
-    ensures { result ≡ shown byte }
-{
-    if byte != b'\t' && (byte < 32 || byte == 127) {
-        b'?'
-    } else {
-        byte
-    }
-}
-
 /// A line as it is shown, with its line feed.
 fn shown_line(alloc: Global, line: &[u8]) -> Result<Vec<u8>, AllocError>
     ensures { IfOk result (λ v. v.items ≡ shown_line line.now) }
 {
-    let mut text = Vec::new(alloc);
-    for byte in line {
-        text.push(shown(*byte))?;
-    }
+    let mut text = shown_text(alloc, line)?;
     text.push(b'\n')?;
     Ok(text)
 }
@@ -222,20 +132,15 @@ fn margin(alloc: Global, line: u32) -> Result<Vec<u8>, AllocError>
     Ok(text)
 }
 
-/// The line of the mark, behind a margin of so many columns.
+/// The line of the mark, behind a margin of so many columns, under what is shown before the mark and what is shown of it.
 fn mark_line(
     alloc: Global,
     margin: usize,
-    quoted: &[u8],
-    column: usize,
-    width: usize,
+    before: &[u8],
+    marked: &[u8],
 ) -> Result<Vec<u8>, AllocError>
-    requires inside { column + width ≤ length quoted.now }
-    requires marks { 0 < width }
-    ensures { IfOk result (λ v. IsMarkLine margin quoted.now column width v.items) }
+    ensures { IfOk result (λ v. IsMarkLine margin before.now marked.now v.items) }
 {
-    let (before, rest) = quoted.split_at(column);
-    let (marked, _behind) = rest.split_at(width);
     let blanks = blanks(alloc, before)?;
     let marks = times(alloc, b'^', columns(marked))?;
     let mut text = times(alloc, b' ', margin.saturating_sub(2))?;
@@ -246,7 +151,51 @@ fn mark_line(
     Ok(text)
 }
 
-/// The quoted line with its number, and the mark under it; nothing where nothing is marked.
+/// What is shown before the mark: what stands for the line's beginning where that is cut off, and the part up to the mark.
+fn shown_before(alloc: Global, window: &Window<'_>) -> Result<Vec<u8>, AllocError>
+    ensures { IfOk result (λ v. v.items ≡ window.now.front.now ++ shown_text window.now.before.now) }
+{
+    let mut text = Vec::from_slice(alloc, window.front)?;
+    let before = shown_text(alloc, window.before)?;
+    text.extend_from_slice(&before)?;
+    Ok(text)
+}
+
+/// A quoted line with its number, of four parts.
+fn numbered_line(
+    alloc: Global,
+    line: u32,
+    before: &[u8],
+    marked: &[u8],
+    behind: &[u8],
+    back: &[u8],
+) -> Result<Vec<u8>, AllocError>
+    ensures { IfOk result (λ v. v.items ≡ margin line ++ before.now ++ marked.now ++ behind.now ++ back.now ++ line_end) }
+{
+    let mut text = margin(alloc, line)?;
+    text.extend_from_slice(before)?;
+    text.extend_from_slice(marked)?;
+    text.extend_from_slice(behind)?;
+    text.extend_from_slice(back)?;
+    text.push(b'\n')?;
+    Ok(text)
+}
+
+/// A part of a line with the line's number, and the mark under it.
+fn quoted_part(alloc: Global, line: u32, window: &Window<'_>) -> Result<Vec<u8>, AllocError>
+    ensures { IfOk result (λ v. IsQuotedPart line window.now.front.now window.now.before.now window.now.marked.now window.now.behind.now window.now.back.now v.items) }
+{
+    let before = shown_before(alloc, window)?;
+    let marked = shown_text(alloc, window.marked)?;
+    let behind = shown_text(alloc, window.behind)?;
+    let mut text = numbered_line(alloc, line, &before, &marked, &behind, window.back)?;
+    let margin = margin(alloc, line)?;
+    let mark = mark_line(alloc, margin.len(), &before, &marked)?;
+    text.extend_from_slice(&mark)?;
+    Ok(text)
+}
+
+/// The quoted line, or what is quoted of a long one, with its number, and the mark under it; nothing where nothing is marked.
 fn quoted_lines(
     alloc: Global,
     line: u32,
@@ -259,12 +208,8 @@ fn quoted_lines(
     if width == 0 {
         return Ok(Vec::new(alloc));
     }
-    let mut text = margin(alloc, line)?;
-    let mark = mark_line(alloc, text.len(), quoted, column, width)?;
-    let shown = shown_line(alloc, quoted)?;
-    text.extend_from_slice(&shown)?;
-    text.extend_from_slice(&mark)?;
-    Ok(text)
+    let whole = is_whole(alloc, quoted)?;
+    quoted_part(alloc, line, &window_of(quoted, whole, column, width))
 }
 
 /// What is written under the line of a fault: the source line with a mark, where one word is meant, and the sentence. Want of memory is its
@@ -280,5 +225,20 @@ pub fn explained_lines(
     let help = shown_line(alloc, &explanation.help)?;
     text.extend_from_slice(b"      = ")?;
     text.extend_from_slice(&help)?;
+    Ok(text)
+}
+
+/// The line of a note: its file, its line there, and its words, without what a terminal could obey. Want of memory is its one error.
+pub fn note_line(alloc: Global, file: &str, line: u32, words: &[u8]) -> Result<Vec<u8>, AllocError>
+    ensures { IfOk result (λ v. v.items ≡ note_line file.now line words.now) }
+{
+    let mut buffer = Buffer::new();
+    let digits = buffer.format(line).as_bytes();
+    let mut text = shown_text(alloc, file.as_bytes())?;
+    text.extend_from_slice(b"(")?;
+    text.extend_from_slice(digits)?;
+    text.extend_from_slice(b"): note: ")?;
+    let words = shown_line(alloc, words)?;
+    text.extend_from_slice(&words)?;
     Ok(text)
 }

@@ -1,6 +1,7 @@
 //! Control lines, which have no effect.
 
 use crate::explaining::pieces::{Piece, pieces};
+use crate::explaining::sentence::{Part, sentence};
 use plm_token::{normal, same_name};
 use std::alloc::{AllocError, Global};
 
@@ -9,6 +10,26 @@ use std::alloc::{AllocError, Global};
 pub struct Control<'a> {
     pub word: &'a [u8],
     pub line: u32,
+}
+
+impl Control<'_> {
+    /// What is said of it. Want of memory is the one error.
+    pub fn words(&self, alloc: Global) -> Result<Vec<u8>, AllocError> {
+        let parts = [Part::Spelled(self.word), Part::Words(" has no effect here")];
+        sentence(alloc, &parts).whole()
+    }
+}
+
+/// Whether a line of a text may begin with a dollar sign: most texts have none, and need not be gone through for controls.
+fn has_dollar_line(text: &[u8]) -> bool {
+    let mut before = b'\n';
+    for byte in text {
+        if *byte == b'$' && before == b'\n' {
+            return true;
+        }
+        before = *byte;
+    }
+    false
 }
 
 /// The dollar sign and the letters and digits after it.
@@ -72,6 +93,9 @@ fn firsts(alloc: Global, words: &[(Vec<u8>, usize)]) -> Result<Vec<usize>, Alloc
 
 /// The controls of a text, each once, where it stands first. Want of memory is its one error.
 pub fn controls<'a>(alloc: Global, text: &'a [u8]) -> Result<Vec<Control<'a>>, AllocError> {
+    if !has_dollar_line(text) {
+        return Ok(Vec::new(alloc));
+    }
     let all = all_controls(alloc, text)?;
     let words = by_words(alloc, &all)?;
     let mut once: Vec<Control<'a>> = Vec::new(alloc);

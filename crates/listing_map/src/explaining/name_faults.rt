@@ -2,8 +2,8 @@
 
 use crate::explaining::facts::{Elements, Facts, Sort, put_described};
 use crate::explaining::left_out::{foreign_way, way_round};
-use crate::explaining::named::{Entry, LOOKED_AT, Named};
-use crate::explaining::nearest::{nearest, nearest_declared};
+use crate::explaining::named::{Entry, Named};
+use crate::explaining::nearest::{Looked, nearest, nearest_declared, put_compared};
 use crate::explaining::program_names::{Other, ProgramNames};
 use crate::explaining::scope::Declared;
 use crate::explaining::sentence::{Part, put_all_parts, sentence, separator};
@@ -26,6 +26,8 @@ pub(crate) struct At<'s, 'a> {
     pub module: usize,
     pub named: &'s Named<'a>,
     pub token: TokenAt,
+    /// So many names are compared with it.
+    pub compared: usize,
 }
 
 impl<'s, 'a> At<'s, 'a> {
@@ -85,24 +87,24 @@ fn is_parameter(at: &At<'_, '_>) -> bool {
     }
 }
 
-/// The names of the members of a structure, of which this stands behind its name, as far as they are looked at.
-fn members<'a>(alloc: Global, rest: &[Token<'a>]) -> Result<Vec<&'a [u8]>, AllocError> {
-    let mut all: Vec<&'a [u8]> = Vec::new(alloc);
+/// The names of the members of a structure, of which this stands behind its name, at most so many.
+fn members<'a>(alloc: Global, rest: &[Token<'a>], most: usize) -> Result<Looked<'a>, AllocError> {
+    let mut names: Vec<&'a [u8]> = Vec::new(alloc);
     let mut depth: usize = 0;
     let mut is_inside = false;
     for token in rest {
         match token.kind {
             Kind::Reserved(Keyword::Structure) => is_inside = true,
-            Kind::Special(Mark::Semicolon) => return Ok(all),
+            Kind::Special(Mark::Semicolon) => return Ok(all_of(names)),
             Kind::Special(Mark::LeftParenthesis) if is_inside => depth = depth.saturating_add(1),
             Kind::Special(Mark::RightParenthesis) if is_inside => {
                 if depth <= 1 {
-                    return Ok(all);
+                    return Ok(all_of(names));
                 }
                 depth = depth.saturating_sub(1);
             }
-            Kind::Identifier if is_inside && all.len() < LOOKED_AT => all.push(token.text)?,
-            Kind::Identifier if is_inside => return Ok(all),
+            Kind::Identifier if is_inside && names.len() < most => names.push(token.text)?,
+            Kind::Identifier if is_inside => return Ok(first_of(names)),
             Kind::Identifier
             | Kind::Reserved(_)
             | Kind::Numeral(_)
@@ -110,7 +112,23 @@ fn members<'a>(alloc: Global, rest: &[Token<'a>]) -> Result<Vec<&'a [u8]>, Alloc
             | Kind::Special(_) => {}
         }
     }
-    Ok(all)
+    Ok(all_of(names))
+}
+
+/// These names, and there are no others.
+fn all_of(names: Vec<&[u8]>) -> Looked<'_> {
+    Looked {
+        names,
+        are_all: true,
+    }
+}
+
+/// The first of more names.
+fn first_of(names: Vec<&[u8]>) -> Looked<'_> {
+    Looked {
+        names,
+        are_all: false,
+    }
 }
 
 /// The names of the members of a declared structure; none of what is no structure.
@@ -118,18 +136,19 @@ fn members_of<'a>(
     alloc: Global,
     at: &At<'_, 'a>,
     entry: &Entry<'a>,
-) -> Result<Vec<&'a [u8]>, AllocError> {
+) -> Result<Looked<'a>, AllocError> {
     match entry.facts.sort {
         Sort::Structure(_) => {
             let tokens = at.named.source.expanded.as_slice();
-            members(alloc, &tokens[entry.declared.rest.min(tokens.len())..])
+            let rest = &tokens[entry.declared.rest.min(tokens.len())..];
+            members(alloc, rest, at.compared)
         }
         Sort::Byte
         | Sort::Word
         | Sort::Pointer
         | Sort::Integer
         | Sort::Procedure(_)
-        | Sort::Nothing => Ok(Vec::new(alloc)),
+        | Sort::Nothing => Ok(all_of(Vec::new(alloc))),
     }
 }
 
@@ -159,7 +178,7 @@ fn structure_before<'a>(at: &At<'_, 'a>) -> Option<Token<'a>> {
 fn lacking_member<'a>(alloc: Global, at: &At<'_, 'a>, owner: &'a [u8]) -> Result<Told, Fault> {
     let own = match at.named.known_as(alloc, owner, at.token.place)? {
         Some(entry) => members_of(alloc, at, &entry)?,
-        None => Vec::new(alloc),
+        None => all_of(Vec::new(alloc)),
     };
     let mut help = sentence(
         alloc,
@@ -176,20 +195,21 @@ fn lacking_member<'a>(alloc: Global, at: &At<'_, 'a>, owner: &'a [u8]) -> Result
 fn put_members(
     alloc: Global,
     help: &mut Noted<u8>,
-    own: &[&[u8]],
+    own: &Looked<'_>,
     name: &[u8],
 ) -> Result<(), AllocError> {
-    if let Some(near) = nearest_declared(alloc, own, name)? {
+    if let Some(near) = nearest_declared(alloc, &own.names, name)? {
         let parts = [
             Part::Words("; "),
             Part::Spelled(near),
             Part::Words(" is one"),
         ];
         put_all_parts(help, &parts);
-    } else if !own.is_empty() {
+    } else if !own.names.is_empty() {
         put_all_parts(help, &[Part::Words("; it has ")]);
-        put_listed(help, own);
+        put_listed(help, &own.names);
     }
+    put_compared(help, own, " first members");
     Ok(())
 }
 
@@ -239,10 +259,10 @@ fn public_elsewhere<'a>(alloc: Global, at: &At<'_, 'a>, public: &Other<'_, 'a>) 
 }
 
 /// A name that is declared nowhere, and the one that is most like it, if there is one.
-fn unknown<'a>(alloc: Global, at: &At<'_, 'a>, near: Option<&'a [u8]>) -> Told {
+fn unknown<'a>(alloc: Global, at: &At<'_, 'a>, near: Option<&'a [u8]>) -> Noted<u8> {
     let name = at.name();
     match near {
-        Some(near) => at.told(
+        Some(near) => sentence(
             alloc,
             &[
                 Part::Spelled(name),
@@ -251,7 +271,7 @@ fn unknown<'a>(alloc: Global, at: &At<'_, 'a>, near: Option<&'a [u8]>) -> Told {
                 Part::Words(" is"),
             ],
         ),
-        None => at.told(
+        None => sentence(
             alloc,
             &[
                 Part::Spelled(name),
@@ -268,9 +288,11 @@ fn declared_nowhere(alloc: Global, at: &At<'_, '_>) -> Result<Told, Fault> {
     if let Some(public) = at.program.public(alloc, at.name())? {
         return Ok(public_elsewhere(alloc, at, &public));
     }
-    let known = at.named.known_at(alloc, at.token.place)?;
-    let near = nearest(alloc, &known, at.name())?;
-    Ok(unknown(alloc, at, near))
+    let known = at.named.known_at(alloc, at.token.place, at.compared)?;
+    let near = nearest(alloc, &known.names, at.name())?;
+    let mut help = unknown(alloc, at, near);
+    put_compared(&mut help, &known, " names declared last before it");
+    Ok(at.told_so(help))
 }
 
 /// A parameter that its procedure does not declare.

@@ -1,14 +1,12 @@
 //! A source's names, found by how they are spelled and by where they stand.
 
 use crate::explaining::facts::{Facts, facts_at, is_based};
+use crate::explaining::nearest::Looked;
 use crate::explaining::scope::{Declarations, Declared, declarations_of};
 use crate::explaining::studied::Studied;
 use plm_token::{Kind, Mark, Token, normal};
 use std::alloc::{AllocError, Global};
 use std::collections::BTreeMap;
-
-/// So many names are looked at where the one is wanted that is most like another.
-pub(crate) const LOOKED_AT: usize = 1_024;
 
 /// A declared name, and what is declared of it.
 #[derive(Clone, Copy)]
@@ -212,11 +210,16 @@ impl<'a> Named<'a> {
         Ok(None)
     }
 
-    /// The names that are known at a place, the outer ones first; of many the nearest alone.
-    pub fn known_at(&self, alloc: Global, place: usize) -> Result<Vec<&'a [u8]>, AllocError> {
+    /// The names that are known at a place, the outer ones first; of many only the nearest, at most so many.
+    pub fn known_at(
+        &self,
+        alloc: Global,
+        place: usize,
+        most: usize,
+    ) -> Result<Looked<'a>, AllocError> {
         let mut names: Vec<&'a [u8]> = Vec::new(alloc);
         let mut next = self.count(place).checked_sub(1);
-        for _step in 0..LOOKED_AT {
+        for _step in 0..most {
             let Some(declared) = self.numbered(next) else {
                 break;
             };
@@ -228,7 +231,10 @@ impl<'a> Named<'a> {
             };
         }
         names.reverse();
-        Ok(names)
+        Ok(Looked {
+            names,
+            are_all: self.numbered(next).is_none(),
+        })
     }
 
     /// The declaration of a name by its number.

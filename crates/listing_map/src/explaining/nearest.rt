@@ -1,10 +1,40 @@
 //! The name that is spelled most like another.
 
+ghost use Rattle.std.specs.Prelude.{◌<◌, ◌≤◌, ◌*◌};
+
+use crate::explaining::sentence::{Part, put_all_parts};
+use crate::noted::Noted;
 use plm_decl::Builtin;
 use plm_token::normal;
 use std::alloc::{AllocError, Global};
 use std::str::from_utf8;
 use strsim::levenshtein;
+
+/// At most so many names are compared with an unknown one.
+pub(crate) const MOST: usize = 1_024;
+
+/// At least so many are, however many unknown names there are.
+const LEAST: usize = 8;
+
+/// So many comparisons are made for all unknown names, unless the least number for each is more.
+const IN_ALL: usize = 100_000;
+
+/// How many names are compared with an unknown one where the sources have so many faults of names: the time of all is bounded.
+pub(crate) fn compared_names(faults: usize) -> usize
+    ensures least { 8 ≤ result }
+    ensures most { result ≤ 1024 }
+    ensures in_all { 8 < result → result * faults ≤ 100000 }
+{
+    (IN_ALL / faults.max(1)).clamp(LEAST, MOST)
+}
+
+/// Names with which an unknown one is compared.
+#[derive(Drop)]
+pub(crate) struct Looked<'a> {
+    pub names: Vec<&'a [u8]>,
+    /// Whether there are no others.
+    pub are_all: bool,
+}
 
 /// The built-in that is named after this one. Each is named here, so that none is forgotten.
 fn builtin_after(builtin: Builtin) -> Option<Builtin> {
@@ -150,6 +180,20 @@ fn nearest_of<'a>(
         best = nearer(alloc, best, name, wanted)?;
     }
     Ok(best)
+}
+
+/// Adds that other names were not compared, if there are any: so many were, which are described by these words.
+pub(crate) fn put_compared(help: &mut Noted<u8>, looked: &Looked<'_>, words: &'static str) {
+    if looked.are_all {
+        return;
+    }
+    let parts = [
+        Part::Words("; only the "),
+        Part::Number(looked.names.len() as u64),
+        Part::Words(words),
+        Part::Words(" were compared"),
+    ];
+    put_all_parts(help, &parts);
 }
 
 fn name_of<'a>(near: Option<Near<'a>>) -> Option<&'a [u8]> {

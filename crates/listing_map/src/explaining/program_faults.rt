@@ -3,7 +3,7 @@
 use crate::explaining::facts::{Elements, Facts, Sort, facts_at, put_described};
 use crate::explaining::name_faults::At;
 use crate::explaining::named::Named;
-use crate::explaining::nearest::nearest_declared;
+use crate::explaining::nearest::{nearest_declared, put_compared};
 use crate::explaining::program_names::{Linked, Other, ProgramNames};
 use crate::explaining::sentence::{Part, put_all_parts, sentence, separator};
 use crate::explaining::told::{Told, tell, tell_so};
@@ -125,7 +125,8 @@ fn without_public(alloc: Global, at: &At<'_, '_>) -> Result<Told, Fault> {
             Part::Words(" PUBLIC"),
         ],
     );
-    let near = nearest_declared(alloc, at.program.publics(), at.name())?;
+    let publics = at.program.publics(alloc, at.compared)?;
+    let near = nearest_declared(alloc, &publics.names, at.name())?;
     match near {
         Some(near) => {
             let parts = [Part::Words("; "), Part::Spelled(near), Part::Words(" is")];
@@ -136,6 +137,7 @@ fn without_public(alloc: Global, at: &At<'_, '_>) -> Result<Told, Fault> {
             &[Part::Words(": is one missing there, or its PUBLIC?")],
         ),
     }
+    put_compared(&mut help, &publics, " first PUBLIC names");
     Ok(at.told_so(help))
 }
 

@@ -1,7 +1,8 @@
 //! The names of all sources: those that modules share, and where interrupts are handled.
 
 use crate::explaining::facts::Facts;
-use crate::explaining::named::{Entry, LOOKED_AT, Named, with_names};
+use crate::explaining::named::{Entry, Named, with_names};
+use crate::explaining::nearest::{Looked, MOST};
 use crate::explaining::studied::{Studied, number_of};
 use plm_syntax::Module;
 use plm_token::{Keyword, Kind, Token, normal};
@@ -86,7 +87,8 @@ impl<'a> ProgramNames<'a> {
     /// Notes a name of a module, where modules share it.
     fn note(&mut self, alloc: Global, shared: Shared, entry: &Entry<'a>) -> Result<(), AllocError> {
         let Entry { declared, facts } = entry;
-        if facts.is_public && self.publics.len() < LOOKED_AT {
+        // One more than are compared with any name shows that there are others.
+        if facts.is_public && self.publics.len() <= MOST {
             self.publics.push(declared.token.text)?;
         }
         if facts.is_public || facts.is_external {
@@ -191,9 +193,13 @@ impl<'a> ProgramNames<'a> {
         Ok(publics.first().copied())
     }
 
-    /// How PUBLIC names are spelled, as far as they are looked at.
-    pub fn publics(&self) -> &[&'a [u8]] {
-        self.publics.as_slice()
+    /// How PUBLIC names are spelled, at most so many of them.
+    pub fn publics(&self, alloc: Global, most: usize) -> Result<Looked<'a>, AllocError> {
+        let count = self.publics.len().min(most);
+        Ok(Looked {
+            names: Vec::from_slice(alloc, &self.publics[..count])?,
+            are_all: count == self.publics.len(),
+        })
     }
 
     /// Where the number of an interrupt stands first behind INTERRUPT.

@@ -1,10 +1,13 @@
 //! What is told of the faults of schedules and ROMs: E701 to E703, and E705.
 
+ghost use Rattle.std.specs.Prelude.{◌≡◌, None};
+ghost use Rattle.listing_map.specs.Explaining.{is_binary, is_text};
+
+use crate::explaining::pieces::END_MARK;
 use crate::explaining::sentence::{Part, put_all_parts};
 use crate::explaining::told::{Mark, Told, tell, tell_so};
 use crate::noted::Noted;
-use std::alloc::{AllocError, Global};
-use word86::Fault;
+use std::alloc::Global;
 
 const FILL: &[u8] = b"FILL";
 
@@ -16,22 +19,14 @@ const TICK: &[u8] = b"TICK";
 
 const KEY: &[u8] = b"KEY";
 
+/// The last turn that a schedule can name.
+const LAST_TURN: u64 = 0xFFFF_FFFF;
+
 /// A word of a line, and how many bytes stand before it.
 #[derive(Clone, Copy)]
 struct Word<'a> {
     text: &'a [u8],
     column: usize,
-}
-
-/// The words of a line, parted by single spaces.
-fn words<'a>(alloc: Global, line: &'a [u8]) -> Result<Vec<Word<'a>>, AllocError> {
-    let mut all: Vec<Word<'a>> = Vec::new(alloc);
-    let mut column: usize = 0;
-    for text in line.split(|byte| *byte == b' ') {
-        all.push(Word { text, column })?;
-        column = column.saturating_add(text.len()).saturating_add(1);
-    }
-    Ok(all)
 }
 
 /// What a word of a line may be.
@@ -80,7 +75,7 @@ impl Place {
     fn takes(self, text: &[u8]) -> bool {
         match self {
             Place::Item => text == FILL || text == AT || text == STOP,
-            Place::Turn => is_decimal(text) && value(text) <= 0xFFFF_FFFF,
+            Place::Turn => is_decimal(text) && value(text) <= LAST_TURN,
             Place::Event => text == TICK || text == KEY,
             Place::Pulses => is_decimal(text) && 1 <= value(text) && value(text) <= 0xFFFF,
             Place::Byte => is_hexadecimal(text),
@@ -122,50 +117,114 @@ impl Place {
     }
 }
 
-/// The first word that does not fit, and what is wanted there; no word where the line is too short.
-fn misfit<'a>(words: &[Word<'a>]) -> (Option<Word<'a>>, Place) {
+/// Where a line leaves its form.
+#[derive(Clone, Copy)]
+struct Misfit<'a> {
+    /// The word that does not fit; the last one where the line is too short.
+    word: Word<'a>,
+    is_short: bool,
+    /// What is expected there, or behind it.
+    place: Place,
+}
+
+/// Where a line leaves its form: at the first word that does not fit, so that the words behind it are not looked at.
+fn first_misfit(line: &[u8]) -> Misfit<'_> {
     let mut place = Place::Item;
-    let item = match words.first() {
-        Some(word) => word.text,
-        None => b"",
+    let mut item: &[u8] = b"";
+    let mut last = Word {
+        text: line,
+        column: 0,
     };
-    for word in words {
-        if !place.takes(word.text) {
-            return (Some(*word), place);
+    let mut column: usize = 0;
+    for text in line.split(|byte| *byte == b' ') {
+        last = Word { text, column };
+        if !place.takes(text) {
+            return Misfit {
+                word: last,
+                is_short: false,
+                place,
+            };
         }
-        place = place.after(item, word.text);
+        if place == Place::Item {
+            item = text;
+        }
+        place = place.after(item, text);
+        column = column.saturating_add(text.len()).saturating_add(1);
     }
-    (None, place)
+    Misfit {
+        word: last,
+        is_short: true,
+        place,
+    }
+}
+
+/// How the word is called at which a line leaves its form.
+fn found_there<'a>(misfit: &Misfit<'a>) -> Part<'a> {
+    if misfit.is_short {
+        return Part::Words("the end of the line");
+    }
+    match misfit.word.text {
+        [] => Part::Words("a space"),
+        text => Part::Spelled(text),
+    }
 }
 
 /// What is told of E701, of which this is the line.
-pub(crate) fn schedule_line(alloc: Global, line: &[u8]) -> Result<Told, Fault> {
-    let words = words(alloc, line)?;
-    let (word, place) = misfit(&words);
-    let found = match word {
-        Some(Word { text: b"", .. }) => Part::Words("a space"),
-        Some(word) => Part::Spelled(word.text),
-        None => Part::Words("the end of the line"),
-    };
-    let (wanted, form) = place.wanted();
+pub(crate) fn schedule_line(alloc: Global, line: &[u8]) -> Told {
+    let misfit = first_misfit(line);
+    let (wanted, form) = misfit.place.wanted();
     let parts = [
         Part::Words("found "),
-        found,
+        found_there(&misfit),
         Part::Words(", where "),
         Part::Words(wanted),
         Part::Words(" can stand, "),
+        Part::Words(limit(&misfit)),
         Part::Words(form),
     ];
     let mut answer = tell(alloc, None, &parts);
-    let marked = match word {
-        Some(word) => Some(word),
-        None => words.last().copied(),
-    };
-    answer.mark = match marked {
-        Some(word) => Some(mark_of(&word, line)),
-        None => None,
-    };
-    Ok(answer)
+    answer.mark = Some(mark_of(&misfit.word, line));
+    answer
+}
+
+/// What is said of a turn that is a number, but one above the last turn.
+fn limit(misfit: &Misfit<'_>) -> &'static str {
+    if misfit.place == Place::Turn && !misfit.is_short && is_decimal(misfit.word.text) {
+        "at most 4294967295, "
+    } else {
+        ""
+    }
+}
+
+/// Whether a byte is one that no text has: a control character except those that part lines and words or end a text, or 0FFH.
+fn is_binary(byte: u8) -> bool
+    ensures { result ≡ is_binary byte }
+{
+    match byte {
+        b'\t' | b'\n' | 12 | b'\r' | END_MARK => false,
+        0..=31 | 127 | 255 => true,
+        _ => false,
+    }
+}
+
+/// Whether a file is a text, as far as its bytes tell.
+pub(crate) fn is_text(file: &[u8]) -> bool
+    ensures { result ≡ is_text file.now }
+{
+    for byte in file {
+        if is_binary(*byte) {
+            return false;
+        }
+    }
+    true
+}
+
+/// What is told of a schedule that is not a text: nothing of it is quoted.
+pub(crate) fn no_text(alloc: Global) -> Told
+    ensures { result.mark ≡ None }
+{
+    let words = "this file is no text: the ROM is named first";
+    tell(alloc, None, &[Part::Words(words)])
 }
 
 /// A mark under a word of a line; under the last space where the word behind it is empty.
@@ -176,12 +235,25 @@ fn mark_of(word: &Word<'_>, line: &[u8]) -> Mark {
     }
 }
 
+/// The first word of a line, and what stands behind the space after it; nothing where there is no space.
+fn first_word(line: &[u8]) -> Option<(&[u8], &[u8])> {
+    for (at, byte) in line.iter().enumerate() {
+        if *byte == b' ' {
+            return Some((&line[..at], &line[at + 1..]));
+        }
+    }
+    None
+}
+
 /// The turn that a line names, if it names one.
-fn turn_of(alloc: Global, line: &[u8]) -> Result<Option<u64>, AllocError> {
-    let words = words(alloc, line)?;
-    match words.as_slice() {
-        [item, turn, ..] if item.text == AT || item.text == STOP => { Ok(Some(value(turn.text))) }
-        _ => Ok(None),
+fn turn_of(line: &[u8]) -> Option<u64> {
+    let (item, rest) = first_word(line)?;
+    if item != AT && item != STOP {
+        return None;
+    }
+    match first_word(rest) {
+        Some((turn, _)) => Some(value(turn)),
+        None => Some(value(rest)),
     }
 }
 
@@ -192,7 +264,7 @@ struct Before {
     has_stop: bool,
 }
 
-fn lines_before(alloc: Global, text: &[u8], line: u32) -> Result<Before, AllocError> {
+fn lines_before(text: &[u8], line: u32) -> Before {
     let mut found = Before {
         turn: None,
         has_stop: false,
@@ -201,14 +273,14 @@ fn lines_before(alloc: Global, text: &[u8], line: u32) -> Result<Before, AllocEr
     for other in text.split(|byte| *byte == b'\n') {
         number = number.saturating_add(1);
         if number >= line {
-            return Ok(found);
+            return found;
         }
-        if let Some(turn) = turn_of(alloc, other)? {
+        if let Some(turn) = turn_of(other) {
             found.turn = Some(turn);
         }
         found.has_stop = found.has_stop || other.starts_with(b"STOP ");
     }
-    Ok(found)
+    found
 }
 
 /// The rule that a line breaks which is out of order behind these.
@@ -239,13 +311,8 @@ fn put_order(text: &mut Noted<u8>, before: Before, quoted: &[u8]) {
 }
 
 /// What is told of E702.
-pub(crate) fn schedule_order(
-    alloc: Global,
-    text: &[u8],
-    quoted: &[u8],
-    line: u32,
-) -> Result<Told, Fault> {
-    let before = lines_before(alloc, text, line)?;
+pub(crate) fn schedule_order(alloc: Global, text: &[u8], quoted: &[u8], line: u32) -> Told {
+    let before = lines_before(text, line);
     let mut help = Noted::new(alloc);
     put_order(&mut help, before, quoted);
     let mut answer = tell_so(None, help);
@@ -253,7 +320,7 @@ pub(crate) fn schedule_order(
         column: 0,
         width: quoted.len(),
     });
-    Ok(answer)
+    answer
 }
 
 /// What is told of E703.
@@ -263,7 +330,9 @@ pub(crate) fn no_stop(alloc: Global) -> Told {
 }
 
 /// What is told of E705, of a ROM of so many bytes.
-pub(crate) fn rom_length(alloc: Global, length: usize) -> Told {
+pub(crate) fn rom_length(alloc: Global, length: usize) -> Told
+    ensures { result.mark ≡ None }
+{
     tell(
         alloc,
         None,

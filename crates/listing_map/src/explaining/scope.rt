@@ -84,7 +84,8 @@ impl<'a> Walk<'a> {
         let Some(start) = self.starts.pop() else {
             return;
         };
-        for number in self.known.iter().skip(start) {
+        let (_, own) = self.known.split_at(start.min(self.known.len()));
+        for number in own {
             if let Some(declared) = self.names.get_mut(*number) {
                 declared.end = at;
             }

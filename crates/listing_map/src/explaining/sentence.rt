@@ -1,6 +1,7 @@
 //! Sentences, put together of words, names and numbers.
 
 use crate::noted::Noted;
+use crate::window::beginning;
 use itoa::Buffer;
 use std::alloc::Global;
 
@@ -8,7 +9,7 @@ use std::alloc::Global;
 #[derive(Clone, Copy)]
 pub(crate) enum Part<'a> {
     Words(&'a str),
-    /// A name, a token or a line, as a source spells it.
+    /// A name, a token or a line, as a source spells it; of a long one its beginning.
     Spelled(&'a [u8]),
     Number(u64),
 }
@@ -17,7 +18,11 @@ pub(crate) enum Part<'a> {
 fn put(text: &mut Noted<u8>, part: Part<'_>) {
     match part {
         Part::Words(words) => text.put(words.as_bytes()),
-        Part::Spelled(bytes) => text.put(bytes),
+        Part::Spelled(bytes) => {
+            let (front, rest) = beginning(bytes);
+            text.put(front);
+            text.put(rest);
+        }
         Part::Number(number) => {
             let mut buffer = Buffer::new();
             text.put(buffer.format(number).as_bytes());

@@ -1,5 +1,7 @@
 //! What is told of a fault: where the mark stands, and the sentence.
 
+ghost use Rattle.std.specs.Prelude.{◌≡◌, None};
+
 use crate::explaining::pieces::Piece;
 use crate::explaining::sentence::{Part, sentence};
 use crate::noted::Noted;
@@ -30,7 +32,9 @@ impl Mark {
 }
 
 /// A sentence, at a piece if there is one.
-pub(crate) fn tell_so(piece: Option<Piece<'_>>, help: Noted<u8>) -> Told {
+pub(crate) fn tell_so(piece: Option<Piece<'_>>, help: Noted<u8>) -> Told
+    ensures { piece.entry ≡ None → result.mark ≡ None }
+{
     Told {
         mark: match piece {
             Some(piece) => Some(Mark::under(&piece)),
@@ -41,6 +45,8 @@ pub(crate) fn tell_so(piece: Option<Piece<'_>>, help: Noted<u8>) -> Told {
 }
 
 /// These parts, at a piece if there is one.
-pub(crate) fn tell(alloc: Global, piece: Option<Piece<'_>>, parts: &[Part<'_>]) -> Told {
+pub(crate) fn tell(alloc: Global, piece: Option<Piece<'_>>, parts: &[Part<'_>]) -> Told
+    ensures { piece.entry ≡ None → result.mark ≡ None }
+{
     tell_so(piece, sentence(alloc, parts))
 }

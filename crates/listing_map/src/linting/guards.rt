@@ -1,7 +1,6 @@
 //! Subscripts that one side of AND or OR reads and another one tests: all sides are evaluated.
 
 use crate::explaining::references::{reference_of, variable_of};
-use crate::explaining::studied::number_at;
 use crate::noted::Noted;
 use plm_decl::{Expression, Form, Names, Operation, Reference, ScalarType, Selector};
 use plm_syntax::BinaryOperator;
@@ -78,10 +77,10 @@ fn subscript_of(reference: &Reference, names: &Names) -> Option<usize> {
     (!is_element).then_some(subscript)
 }
 
-/// An array that is read, by the number of its token, with the variable that is its subscript.
+/// An array that is read, by the place of its token, with the variable that is its subscript.
 #[derive(Clone, Copy)]
 pub(crate) struct Reading {
-    pub number: u32,
+    pub place: usize,
     pub subscript: usize,
 }
 
@@ -90,7 +89,7 @@ pub(crate) struct Reading {
 pub(crate) fn array_read(e: &Expression, names: &Names) -> Option<Reading> {
     match e {
         Expression::Reference(reference) => Some(Reading {
-            number: number_at(reference.place),
+            place: reference.place.token as usize,
             subscript: subscript_of(reference, names)?,
         }),
         Expression::Parenthesised(_, inner) => array_read(inner, names),

@@ -1,6 +1,5 @@
 //! Procedures with a value that may come to their END without RETURN.
 
-use crate::explaining::studied::number_at;
 use crate::linting::constants::{condition, may_be_selected, selected};
 use crate::linting::{Finding, Found};
 use crate::noted::Noted;
@@ -146,7 +145,7 @@ pub(crate) fn add_without_return(
         if has_body && procedure.returned.is_some() && !ends.body(&procedure.body) {
             found.add(Found {
                 module: procedure.module,
-                number: number_at(procedure.place),
+                place: procedure.place.token as usize,
                 finding: Finding::WithoutReturn,
             });
         }

@@ -1,36 +1,35 @@
 //! Names that a module declares and does not use.
 
 use crate::explaining::scope::{Declared, all_names};
-use crate::explaining::studied::{Studied, number_of};
 use crate::linting::{Finding, Found};
 use crate::noted::Noted;
-use plm_token::{Keyword, Kind, Mark, Token, normal};
+use plm_token::{Keyword, Kind, Mark, Token, same_name};
 use std::alloc::{AllocError, Global};
 
-/// The names that stand in a module, in normal form, once for each time, in the order of their letters; but for those behind END.
-fn spelled_names(alloc: Global, tokens: &[Token<'_>]) -> Result<Vec<Vec<u8>>, AllocError> {
-    let mut all: Vec<Vec<u8>> = Vec::new(alloc);
+/// A number that names have in common which are spelled alike: case and dollar signs do not count.
+fn key_of(name: &[u8]) -> u64 {
+    let mut key: u64 = 0;
+    for letter in name {
+        if *letter != b'$' {
+            let code = u64::from(letter.to_ascii_uppercase());
+            key = key.wrapping_mul(0x100_0000_01B3).wrapping_add(code);
+        }
+    }
+    key
+}
+
+/// The names that stand in a module: of each its key and its place, once for each time, in the order of keys; but for those behind END.
+fn spelled_names(alloc: Global, tokens: &[Token<'_>]) -> Result<Vec<(u64, usize)>, AllocError> {
+    let mut all: Vec<(u64, usize)> = Vec::new(alloc);
     let mut is_end = false;
-    for token in tokens {
+    for (place, token) in tokens.iter().enumerate() {
         if token.kind == Kind::Identifier && !is_end {
-            all.push(normal(alloc, token.text)?)?;
+            all.push((key_of(token.text), place))?;
         }
         is_end = token.kind == Kind::Reserved(Keyword::End);
     }
     all.sort()?;
     Ok(all)
-}
-
-/// Whether a name stands at two places at least.
-fn stands_again(all: &[Vec<u8>], name: &Vec<u8>) -> bool {
-    let Ok(at) = all.binary_search(name) else {
-        return false;
-    };
-    let is_before = match at.checked_sub(1) {
-        Some(before) => all.get(before) == Some(name),
-        None => false,
-    };
-    is_before || all.get(at.saturating_add(1)) == Some(name)
 }
 
 /// Whether PUBLIC, EXTERNAL or INTERRUPT stands between a token and the end of its element, or of its procedure's first line, and how many
@@ -92,28 +91,52 @@ fn is_literal(tokens: &[Token<'_>], at: usize) -> bool {
 #[derive(Clone, Copy)]
 struct Uses<'m, 'a> {
     tokens: &'m [Token<'a>],
-    spelled: &'m [Vec<u8>],
+    spelled: &'m [(u64, usize)],
     shared: &'m [bool],
 }
 
 impl Uses<'_, '_> {
-    /// Whether a declared name is no literal's, and is neither spelled elsewhere nor shared.
-    fn is_unused(&self, alloc: Global, declared: &Declared<'_>) -> Result<bool, AllocError> {
+    /// Whether a name is spelled so at a place.
+    fn is_spelled(&self, place: usize, name: &[u8]) -> bool {
+        match self.tokens.get(place) {
+            Some(token) => same_name(token.text, name),
+            None => false,
+        }
+    }
+
+    /// Whether a declared name stands at another place, too.
+    fn stands_again(&self, declared: &Declared<'_>) -> bool {
+        let name = declared.token.text;
+        let key = key_of(name);
+        let before = self.spelled.partition_point(|it| it.0 < key);
+        let (_, rest) = self.spelled.split_at(before);
+        for (other, place) in rest {
+            if *other != key {
+                return false;
+            }
+            if *place != declared.at && self.is_spelled(*place, name) {
+                return true;
+            }
+        }
+        false
+    }
+
+    /// Whether a declared name is not a literal's, and is neither spelled elsewhere nor shared.
+    fn is_unused(&self, declared: &Declared<'_>) -> bool {
         let is_shared = self.shared.get(declared.at).copied().unwrap_or(false);
-        let name = normal(alloc, declared.token.text)?;
         let is_apart = is_shared || is_literal(self.tokens, declared.at);
-        Ok(!is_apart && !stands_again(self.spelled, &name))
+        !is_apart && !self.stands_again(declared)
     }
 }
 
-/// Adds each name but a literal's that its module declares and spells nowhere else, and no other module can use.
+/// Adds each name but a literal's that a module declares and spells nowhere else, and no other module can use. These are its tokens, with
+/// literals replaced.
 pub(crate) fn add_unused(
     alloc: Global,
-    source: &Studied<'_>,
+    tokens: &[Token<'_>],
     module: usize,
     found: &mut Noted<Found>,
 ) -> Result<(), AllocError> {
-    let tokens = source.expanded.as_slice();
     let spelled = spelled_names(alloc, tokens)?;
     let shared = all_shared(alloc, tokens)?;
     let uses = Uses {
@@ -122,10 +145,10 @@ pub(crate) fn add_unused(
         shared: &shared,
     };
     for declared in all_names(alloc, tokens)? {
-        if uses.is_unused(alloc, &declared)? {
+        if uses.is_unused(&declared) {
             found.add(Found {
                 module,
-                number: number_of(&declared.token),
+                place: declared.at,
                 finding: Finding::Unused,
             });
         }

@@ -1,7 +1,6 @@
 //! What is found in expressions and statements.
 
 use crate::explaining::references::variable_of;
-use crate::explaining::studied::number_at;
 use crate::explaining::value_types::{Typed, Types};
 use crate::linting::constants::{
     Constant, condition, constant_value, integer_value, may_be_selected, selected,
@@ -121,7 +120,7 @@ impl Walk<'_> {
         if let Some(finding) = finding {
             found.add(Found {
                 module: self.module,
-                number: number_at(place),
+                place: place.token as usize,
                 finding,
             });
         }
@@ -176,7 +175,7 @@ impl Walk<'_> {
         if tested.is_beside(read.subscript, side) {
             found.add(Found {
                 module: self.module,
-                number: read.number,
+                place: read.place,
                 finding: Finding::Unguarded(operator),
             });
         }
