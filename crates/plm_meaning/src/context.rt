@@ -118,21 +118,6 @@ pub enum Redex<'a> {
     Loop(Phase, &'a Loop),
 }
 
-/// What comes first of a part.
-#[derive(Clone, Copy)]
-pub enum Start<'a> {
-    /// It is rewritten next.
-    Ready(Redex<'a>),
-    /// An operation whose operands have these values, before others of its level.
-    Operate(u16, u16, &'a Operation, &'a [Operation]),
-    /// An expression is evaluated first, in a hole.
-    Within(Hole<'a>, &'a Expression),
-    /// A CALL.
-    Evaluate(&'a Expression),
-    /// A call of a procedure, with its arguments.
-    Call(usize, &'a [Expression]),
-}
-
 /// The innermost part.
 #[derive(Drop)]
 pub enum Focus<'a> {

@@ -217,7 +217,9 @@ impl<'a> Meaning<'a> {
             None => return Err(Stop::NotAllowed),
             Some(context) => {
                 settle(self.alloc, context)?;
-                match next_action(context, &self.around) {
+                let mut next = Action::Silent;
+                next_action(context, &self.around, &mut next);
+                match next {
                     Action::Ended | Action::Returned => true,
                     Action::Silent
                     | Action::Touch(_)
@@ -273,7 +275,8 @@ impl<'a> Meaning<'a> {
             Some(context) => context,
         };
         settle(self.alloc, context)?;
-        let next = handler_action(context, &self.around);
+        let mut next = Action::Silent;
+        handler_action(context, &self.around, &mut next);
         let on = is_on_after(&next, self.on);
         let label = perform(context, &mut self.store, &self.around, &next)?;
         self.on = on;
@@ -292,7 +295,8 @@ impl<'a> Meaning<'a> {
             return Err(Stop::NotAllowed);
         }
         settle(self.alloc, &mut self.main)?;
-        let next = main_action(&self.main, &self.around);
+        let mut next = Action::Silent;
+        main_action(&self.main, &self.around, &mut next);
         let Some((silents, switches)) = counted(
             self.is_interrupted(),
             &next,
@@ -380,7 +384,7 @@ fn perform<'a>(
             Ok(None)
         }
         Action::Touch(access) => {
-            let (answer, label) = store.touch(*access);
+            let (answer, label) = store.touch(access);
             go_on(context, around, answer);
             Ok(label)
         }

@@ -1,5 +1,8 @@
 //! The step of the part that is rewritten next: the access, the switch of interrupts or the silent step that it makes, and what
 //! stands in its place afterwards.
+//!
+//! The step goes where the caller has room for it, and what it leaves goes into the focus: as answers both would be cleared, filled and
+//! copied each time.
 
 ghost use Rattle.std.specs.Prelude.{◌≡◌, ℕ, List, ◌+◌, ◌<◌, Bool, if◌then◌else◌, Some, None, map, slice_get, drop, length};
 ghost use Rattle.word86.specs.Place.{where_of};
@@ -7,7 +10,7 @@ ghost use Rattle.word86.specs.Access.{Write, Access as Accessed, values};
 ghost use Rattle.word86.specs.Action.{Touch, Over, map_action, Silent as Quiet};
 ghost use Rattle.word86.specs.Arithmetic.{low};
 ghost use Rattle.plm_type.specs.Rest.{Refer, NoSubscripts, Round, Statements, While, Then, End, Stepping as Steps, Main, Handler};
-ghost use Rattle.plm_type.specs.Next.{is_odd, operated, next, next_case, next_passing, next_statements, has_passed, leaves, counting_of, behind, rounds_of, step_of, parameters_of, body_of};
+ghost use Rattle.plm_type.specs.Next.{is_odd, operated, next as plm_next, next_case, next_passing, next_statements, has_passed, leaves, counting_of, behind, rounds_of, step_of, parameters_of, body_of};
 ghost use Rattle.plm_type.specs.View.{scalar_of, expression_of, statements_of, loop_of, procedures_of};
 ghost use Rattle.plm_meaning.specs.Context.{Part, Expr, ToRun, purposed, origin_of, part_of, phase_of, redex_part, to_run_in, to_run_of};
 ghost use Rattle.plm_meaning.specs.Inner.Context.{IsSettled};
@@ -46,15 +49,17 @@ impl<'a> Destination<'a> {
         }
     }
 
-    // What comes once it is stored.
-    fn stored(self) -> Focus<'a>
-        ensures { part_of result ≡ stored self.entry }
+    // Leaves what comes once it is stored.
+    fn stored(&self, focus: &mut Focus<'a>)
+        ensures { part_of focus.new ≡ stored self.now }
     {
         match self {
-            Destination::Embedded(v) => Focus::Value(v),
+            Destination::Embedded(v) => *focus = Focus::Value(*v),
             Destination::Assigned(v, targets) => match targets.split_first() {
-                None => Focus::Statements(&[]),
-                Some((target, others)) => Focus::Aim(target, Destination::Assigned(v, others)),
+                None => *focus = Focus::Statements(&[]),
+                Some((target, others)) => {
+                    *focus = Focus::Aim(target, Destination::Assigned(*v, others));
+                }
             },
         }
     }
@@ -85,42 +90,44 @@ fn is_odd(v: u16) -> bool
 // A reference whose address is known.
 fn refer(
     around: &Surroundings<'_>,
-    purpose: Purpose<'_>,
+    purpose: &Purpose<'_>,
     line: Line,
     origin: Origin,
     offset: u64,
-) -> Action
-    ensures step { acting result (referred around.now purpose.entry origin offset) ≡ next_part around.now (purposed purpose.entry (Refer line.module line.line (origin_of origin) offset NoSubscripts)) }
-    ensures going { IsStep result }
+    next: &mut Action,
+)
+    ensures step { acting next.new (referred around.now purpose.now origin offset) ≡ next_part around.now (purposed purpose.now (Refer line.module line.line (origin_of origin) offset NoSubscripts)) }
+    ensures going { IsStep next.new }
 {
     let address = around.address(origin, offset);
     match purpose {
-        Purpose::Locate => Action::Silent,
-        Purpose::Read(width) => match around.place(width, origin, address) {
-            None => Action::Bad(line),
-            Some(place) => Action::Touch(Access::Read(width, place)),
+        Purpose::Locate => *next = Action::Silent,
+        Purpose::Read(width) => match around.place(*width, origin, address) {
+            None => *next = Action::Bad(line),
+            Some(place) => *next = Action::Touch(Access::Read(*width, place)),
         },
-        Purpose::Store(width, destination) => match around.place(width, origin, address) {
-            None => Action::Bad(line),
-            Some(place) => store(width, place, destination),
+        Purpose::Store(width, destination) => match around.place(*width, origin, address) {
+            None => *next = Action::Bad(line),
+            Some(place) => *next = store(*width, place, *destination),
         },
     }
 }
 
-// What a reference leaves.
+// Leaves what a reference leaves.
 fn referred<'a>(
     around: &Surroundings<'_>,
-    purpose: Purpose<'a>,
+    purpose: &Purpose<'a>,
     origin: Origin,
     offset: u64,
     answer: u16,
-) -> Focus<'a>
-    ensures { part_of result ≡ referred around.now purpose.entry origin offset answer }
+    focus: &mut Focus<'a>,
+)
+    ensures { part_of focus.new ≡ referred around.now purpose.now origin offset answer }
 {
     match purpose {
-        Purpose::Read(_) => Focus::Value(answer),
-        Purpose::Locate => Focus::Value(around.address(origin, offset)),
-        Purpose::Store(_, destination) => destination.stored(),
+        Purpose::Read(_) => *focus = Focus::Value(answer),
+        Purpose::Locate => *focus = Focus::Value(around.address(origin, offset)),
+        Purpose::Store(_, destination) => destination.stored(focus),
     }
 }
 
@@ -220,13 +227,13 @@ fn end_round<'a>(leaves: bool, rounds: &'a Loop) -> Focus<'a>
 }
 
 // The step of an operator.
-fn operate(line: Line, value: Option<u16>) -> Action
-    ensures step { acting result (λ v. value_left value) ≡ map_action Expr (operated line.module line.line value) }
-    ensures going { IsStep result }
+fn operate(line: Line, value: Option<u16>, next: &mut Action)
+    ensures step { acting next.new (λ v. value_left value) ≡ map_action Expr (operated line.module line.line value) }
+    ensures going { IsStep next.new }
 {
     match value {
-        None => Action::Bad(line),
-        Some(_) => Action::Silent,
+        None => *next = Action::Bad(line),
+        Some(_) => *next = Action::Silent,
     }
 }
 
@@ -241,64 +248,68 @@ fn operated<'a>(value: Option<u16>) -> Focus<'a>
 }
 
 // The step of a DO with an index.
-fn loop_step(phase: Phase, rounds: &Loop) -> Action
-    ensures step { (s : Surroundings) → acting result (loop_left s phase rounds.now) ≡ next_part s (ToRun (Then (phase_of phase (loop_of rounds.now)) End)) }
-    ensures going { IsStep result }
+fn loop_step(phase: Phase, rounds: &Loop, next: &mut Action)
+    ensures step { (s : Surroundings) → acting next.new (loop_left s phase rounds.now) ≡ next_part s (ToRun (Then (phase_of phase (loop_of rounds.now)) End)) }
+    ensures going { IsStep next.new }
 {
     let width = rounds.index.width;
     let place = rounds.index.place;
     match phase {
-        Phase::Begin(v) => write(width, place, u32::from(v)),
-        Phase::Storing(sum, _) => write(width, place, sum),
-        Phase::Round | Phase::Stepping(_) => Action::Touch(Access::Read(width, place)),
-        Phase::Comparing(_, _) | Phase::Adding(_, _) | Phase::Ending(_) => Action::Silent,
+        Phase::Begin(v) => *next = write(width, place, u32::from(v)),
+        Phase::Storing(sum, _) => *next = write(width, place, sum),
+        Phase::Round | Phase::Stepping(_) => *next = Action::Touch(Access::Read(width, place)),
+        Phase::Comparing(_, _) | Phase::Adding(_, _) | Phase::Ending(_) => *next = Action::Silent,
     }
 }
 
-// What the step of a DO with an index leaves.
-fn round_left<'a>(phase: Phase, rounds: &'a Loop, answer: u16) -> Focus<'a>
-    ensures { (s : Surroundings) → part_of result ≡ loop_left s phase rounds.now answer }
+// Leaves what the step of a DO with an index leaves.
+fn round_left<'a>(phase: Phase, rounds: &'a Loop, answer: u16, focus: &mut Focus<'a>)
+    ensures { (s : Surroundings) → part_of focus.new ≡ loop_left s phase rounds.now answer }
 {
     let width = rounds.index.width;
     match phase {
-        Phase::Begin(_) => Focus::Ready(Redex::Loop(Phase::Round, rounds)),
-        Phase::Round => Focus::Bound(answer, rounds),
-        Phase::Comparing(index, bound) => compare(index, bound, rounds),
-        Phase::Stepping(step) => Focus::Ready(Redex::Loop(Phase::Adding(answer, step), rounds)),
+        Phase::Begin(_) => *focus = Focus::Ready(Redex::Loop(Phase::Round, rounds)),
+        Phase::Round => *focus = Focus::Bound(answer, rounds),
+        Phase::Comparing(index, bound) => *focus = compare(index, bound, rounds),
+        Phase::Stepping(step) => {
+            *focus = Focus::Ready(Redex::Loop(Phase::Adding(answer, step), rounds));
+        }
         Phase::Adding(index, step) => {
             let sum = u32::from(index) + u32::from(step);
             let leaves = leaves(rounds.counting, width, index, step);
-            Focus::Ready(Redex::Loop(Phase::Storing(sum, leaves), rounds))
+            *focus = Focus::Ready(Redex::Loop(Phase::Storing(sum, leaves), rounds));
         }
-        Phase::Storing(_, leaves) => Focus::Ready(Redex::Loop(Phase::Ending(leaves), rounds)),
-        Phase::Ending(leaves) => end_round(leaves, rounds),
+        Phase::Storing(_, leaves) => {
+            *focus = Focus::Ready(Redex::Loop(Phase::Ending(leaves), rounds));
+        }
+        Phase::Ending(leaves) => *focus = end_round(leaves, rounds),
     }
 }
 
 // The step of the part that is rewritten next.
-fn redex_step(around: &Surroundings<'_>, redex: &Redex<'_>) -> Action
-    ensures step { acting result (redex_left around.now redex.now) ≡ next_part around.now (redex_part redex.now) }
-    ensures going { IsStep result }
+fn redex_step(around: &Surroundings<'_>, redex: &Redex<'_>, next: &mut Action)
+    ensures step { acting next.new (redex_left around.now redex.now) ≡ next_part around.now (redex_part redex.now) }
+    ensures going { IsStep next.new }
 {
     match redex {
-        Redex::Plain(width, place) => Action::Touch(Access::Read(*width, *place)),
-        Redex::Base(_, _, base, _) => Action::Touch(Access::Read(Width::Word, *base)),
+        Redex::Plain(width, place) => *next = Action::Touch(Access::Read(*width, *place)),
+        Redex::Base(_, _, base, _) => *next = Action::Touch(Access::Read(Width::Word, *base)),
         Redex::Refer(purpose, line, origin, offset) => {
-            refer(around, *purpose, *line, *origin, *offset)
+            refer(around, purpose, *line, *origin, *offset, next);
         }
         Redex::Binary(line, operation, width, x, y) => {
-            operate(*line, operation.value(*width, *x, *y))
+            operate(*line, operation.value(*width, *x, *y), next);
         }
-        Redex::Store(width, place, destination) => store(*width, *place, *destination),
-        Redex::Input(width, port) => Action::Touch(Access::Input(*width, *port)),
+        Redex::Store(width, place, destination) => *next = store(*width, *place, *destination),
+        Redex::Input(width, port) => *next = Action::Touch(Access::Input(*width, *port)),
         Redex::Output(width, port, destination) => {
             let v = width.low(u32::from(destination.value()));
-            Action::Touch(Access::Output(*width, *port, v))
+            *next = Action::Touch(Access::Output(*width, *port, v));
         }
-        Redex::Enable => Action::Enable,
-        Redex::Disable => Action::Disable,
-        Redex::Halt => Action::Halt,
-        Redex::Loop(phase, rounds) => loop_step(*phase, rounds),
+        Redex::Enable => *next = Action::Enable,
+        Redex::Disable => *next = Action::Disable,
+        Redex::Halt => *next = Action::Halt,
+        Redex::Loop(phase, rounds) => loop_step(*phase, rounds, next),
         Redex::Constant(_)
         | Redex::Unary(_, _, _)
         | Redex::Ended
@@ -310,54 +321,56 @@ fn redex_step(around: &Surroundings<'_>, redex: &Redex<'_>) -> Action
         | Redex::Block(_)
         | Redex::Leaving
         | Redex::While(_, _, _)
-        | Redex::Case(_, _) => Action::Silent,
+        | Redex::Case(_, _) => *next = Action::Silent,
     }
 }
 
-// What the step of the part that is rewritten next leaves, once its access has this answer.
-fn redex_left<'a>(around: &Surroundings<'_>, redex: &Redex<'a>, answer: u16) -> Focus<'a>
-    ensures { part_of result ≡ redex_left around.now redex.now answer }
+// Leaves what the step of the part that is rewritten next leaves, once its access has this answer.
+fn redex_left<'a>(around: &Surroundings<'_>, redex: &Redex<'a>, answer: u16, focus: &mut Focus<'a>)
+    ensures { part_of focus.new ≡ redex_left around.now redex.now answer }
 {
     match redex {
-        Redex::Constant(k) => Focus::Value(*k),
-        Redex::Plain(_, _) | Redex::Input(_, _) => Focus::Value(answer),
-        Redex::Base(purpose, line, _, offset) => Focus::Ready(Redex::Refer(
-            *purpose,
-            *line,
-            Origin::There(answer),
-            *offset,
-        )),
+        Redex::Constant(k) => *focus = Focus::Value(*k),
+        Redex::Plain(_, _) | Redex::Input(_, _) => *focus = Focus::Value(answer),
+        Redex::Base(purpose, line, _, offset) => {
+            let origin = Origin::There(answer);
+            *focus = Focus::Ready(Redex::Refer(*purpose, *line, origin, *offset));
+        }
         Redex::Refer(purpose, _, origin, offset) => {
-            referred(around, *purpose, *origin, *offset, answer)
+            referred(around, purpose, *origin, *offset, answer, focus);
         }
-        Redex::Unary(operation, width, v) => Focus::Value(operation.value(*width, *v)),
-        Redex::Binary(_, operation, width, x, y) => operated(operation.value(*width, *x, *y)),
-        Redex::Store(_, _, destination) | Redex::Output(_, _, destination) => destination.stored(),
-        Redex::Ended => Focus::Value(0),
-        Redex::Given(v) => Focus::Value(*v),
+        Redex::Unary(operation, width, v) => *focus = Focus::Value(operation.value(*width, *v)),
+        Redex::Binary(_, operation, width, x, y) => {
+            *focus = operated(operation.value(*width, *x, *y));
+        }
+        Redex::Store(_, _, destination) | Redex::Output(_, _, destination) => {
+            destination.stored(focus);
+        }
+        Redex::Ended => *focus = Focus::Value(0),
+        Redex::Given(v) => *focus = Focus::Value(*v),
         Redex::Empty | Redex::Leaving | Redex::Enable | Redex::Disable | Redex::Halt => {
-            Focus::Statements(&[])
+            *focus = Focus::Statements(&[]);
         }
-        Redex::Return => Focus::Returned(0),
-        Redex::ReturnValue(width, v) => Focus::Returned(width.low(u32::from(*v))),
-        Redex::If(v, taken, other) => arm(*v, taken, other),
-        Redex::Block(body) => Focus::Within(Later::Leaving, body),
-        Redex::While(v, condition, body) => while_loop(*v, condition, body),
-        Redex::Case(v, cases) => case(*v, cases),
-        Redex::Loop(phase, rounds) => round_left(*phase, rounds, answer),
+        Redex::Return => *focus = Focus::Returned(0),
+        Redex::ReturnValue(width, v) => *focus = Focus::Returned(width.low(u32::from(*v))),
+        Redex::If(v, taken, other) => *focus = arm(*v, taken, other),
+        Redex::Block(body) => *focus = Focus::Within(Later::Leaving, body),
+        Redex::While(v, condition, body) => *focus = while_loop(*v, condition, body),
+        Redex::Case(v, cases) => *focus = case(*v, cases),
+        Redex::Loop(phase, rounds) => round_left(*phase, rounds, answer, focus),
     }
 }
 
 // The next parameter gets its value, or the body begins.
-fn pass(parameters: &[Scalar], values: &[u16], done: usize) -> Action
-    ensures step { (n : ℕ) (body : Statements) → let next = map_action Expr (next_passing n (map scalar_of parameters.now) (drop done values.now) body) in acting result (left_of next) ≡ next }
-    ensures going { IsStep result }
+fn pass(parameters: &[Scalar], values: &[u16], done: usize, next: &mut Action)
+    ensures step { (n : ℕ) (body : Statements) → let passing = map_action Expr (next_passing n (map scalar_of parameters.now) (drop done values.now) body) in acting next.new (left_of passing) ≡ passing }
+    ensures going { IsStep next.new }
 {
     match parameters.split_first() {
-        None => Action::Silent,
+        None => *next = Action::Silent,
         Some((x, _)) => match values.get(done) {
-            None => Action::Silent,
-            Some(v) => write(x.width, x.place, u32::from(*v)),
+            None => *next = Action::Silent,
+            Some(v) => *next = write(x.width, x.place, u32::from(*v)),
         },
     }
 }
@@ -383,43 +396,42 @@ fn passed<'a>(
 
 /// What a settled context does next.
 #[tactic(auto, using(crate::proofs::Steps::whole_step))]
-pub fn next_action(context: &Context<'_>, around: &Surroundings<'_>) -> Action
+pub fn next_action(context: &Context<'_>, around: &Surroundings<'_>, next: &mut Action)
     requires { IsSettled context.now.focus context.now.frames.items }
-    ensures action { context_action around.now context.now result ≡ next_statements (offsets_of around.now) (sizes_of around.now) (procedures_in around.now) (to_run_of context.now) }
-    ensures end { SaysEnd result (to_run_of context.now) }
-    ensures halts { HasHalted result context.now.frames.items }
-    ensures fits { FitsIn result }
+    ensures action { context_action around.now context.now next.new ≡ next_statements (offsets_of around.now) (sizes_of around.now) (procedures_in around.now) (to_run_of context.now) }
+    ensures end { SaysEnd next.new (to_run_of context.now) }
+    ensures halts { HasHalted next.new context.now.frames.items }
+    ensures fits { FitsIn next.new }
 {
     match &context.focus {
-        Focus::Ready(redex) => redex_step(around, redex),
-        Focus::Call(p, values) => pass(around.procedure(*p).0, values, 0),
-        Focus::Passing(_, parameters, values, done) => pass(parameters, values, *done),
-        Focus::Returned(_) => Action::Returned,
-        _ => Action::Ended,
+        Focus::Ready(redex) => redex_step(around, redex, next),
+        Focus::Call(p, values) => pass(around.procedure(*p).0, values, 0, next),
+        Focus::Passing(_, parameters, values, done) => pass(parameters, values, *done, next),
+        Focus::Returned(_) => *next = Action::Returned,
+        _ => *next = Action::Ended,
     }
 }
 
 /// What main does next, once it is settled: at its end it halts again and again.
 #[inline(always)]
-pub fn main_action(context: &Context<'_>, around: &Surroundings<'_>) -> Action
+pub fn main_action(context: &Context<'_>, around: &Surroundings<'_>, next: &mut Action)
     requires { IsSettled context.now.focus context.now.frames.items }
-    ensures action { next (offsets_of around.now) (sizes_of around.now) (procedures_in around.now) (Main (to_run_of context.now)) ≡ map_action Main (context_action around.now context.now result) }
-    ensures fits { FitsIn result }
+    ensures action { plm_next (offsets_of around.now) (sizes_of around.now) (procedures_in around.now) (Main (to_run_of context.now)) ≡ map_action Main (context_action around.now context.now next.new) }
+    ensures fits { FitsIn next.new }
 {
-    let found = next_action(context, around);
-    if let Action::Ended = found {
-        return Action::Halt;
+    next_action(context, around, next);
+    if let Action::Ended = next {
+        *next = Action::Halt;
     }
-    found
 }
 
 /// What an interrupt procedure does next, once it is settled: it is used up at its end, or by RETURN.
-pub fn handler_action(context: &Context<'_>, around: &Surroundings<'_>) -> Action
+pub fn handler_action(context: &Context<'_>, around: &Surroundings<'_>, next: &mut Action)
     requires { IsSettled context.now.focus context.now.frames.items }
-    ensures action { next (offsets_of around.now) (sizes_of around.now) (procedures_in around.now) (Handler (to_run_of context.now)) ≡ map_action Handler (context_action around.now context.now result) }
-    ensures fits { FitsIn result }
+    ensures action { plm_next (offsets_of around.now) (sizes_of around.now) (procedures_in around.now) (Handler (to_run_of context.now)) ≡ map_action Handler (context_action around.now context.now next.new) }
+    ensures fits { FitsIn next.new }
 {
-    next_action(context, around)
+    next_action(context, around, next);
 }
 
 // What the step of a call leaves of it: a parameter has its value, or the body begins.
@@ -452,7 +464,8 @@ pub fn go_on<'a>(context: &mut Context<'a>, around: &Surroundings<'a>, answer: u
     ensures rest { to_run_of context.new ≡ to_run_in context.old.frames.items (left around.now context.old.focus answer) }
 {
     if let Focus::Ready(redex) = &context.focus {
-        context.focus = redex_left(around, redex, answer);
+        let redex = *redex;
+        redex_left(around, &redex, answer, &mut context.focus);
         return;
     }
     let focus = mem::replace(&mut context.focus, Focus::Value(answer));

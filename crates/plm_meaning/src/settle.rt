@@ -3,95 +3,21 @@
 //! Each way to begin is a function of its own, never inlined: room for what it makes is cleared where it is entered, and `settle`
 //! would clear that of all of them at each step.
 
-ghost use Rattle.std.specs.Prelude.{◌≡◌, suc, ◌+◌, ◌<◌, ◌≤◌, OnOk, IfSome, IfNone, vec_len, vec_capacity};
+ghost use Rattle.std.specs.Prelude.{◌≡◌, ◌+◌, ◌<◌, ◌≤◌, OnOk, IfSome, IfNone, vec_len, vec_capacity};
 ghost use Rattle.plm_type.specs.Next.{behind, bound_of};
-ghost use Rattle.plm_type.specs.Rest.{Call, More, Then, End, Returned, Running, Comparing as Compare, Value as Known};
+ghost use Rattle.plm_type.specs.Rest.{Statements, Call, More, Then, End, Returned, Running, Comparing as Compare, Value as Known};
 ghost use Rattle.plm_type.specs.View.{expression_of, expressions_of, target_of, statement_of, statements_of, loop_of};
-ghost use Rattle.plm_meaning.specs.Inner.Start.{depth, start_depth};
 ghost use Rattle.plm_meaning.specs.Context.{Expr, ToRun, aimed, later_of, given, around, to_run_in, to_run_of};
-ghost use Rattle.plm_meaning.specs.Inner.Context.{start_part, IsSettled};
+ghost use Rattle.plm_meaning.specs.Inner.Context.{IsSettled};
 
-use crate::context::{Context, Destination, Focus, Frame, Hole, Later, Redex, Start};
-use crate::start::{expression_start, leaf, statement_start, target_start};
-use plm_type::{Expression, Loop, Operation, Statement, Target};
+use crate::context::{Context, Destination, Focus, Frame, Later, Redex};
+use crate::start::{bound_start, expression_start, leaf, statement_start, target_start};
+use plm_type::{Expression, Loop, Statement, Target};
 use std::alloc::{AllocError, Global};
 
 // How many frames are put down at most before an expression begins: what stands around statements, what comes after the first of them,
 // and what that one waits for.
 const ROOM: usize = 3;
-
-// Both operands are known.
-#[tactic(auto, using(crate::proofs::Plug::to_run_last))]
-fn operate<'a>(
-    x: u16,
-    y: u16,
-    operation: &'a Operation,
-    more: &'a [Operation],
-    context: &mut Context<'a>,
-)
-    requires room { vec_len context.old.frames < vec_capacity context.old.frames }
-    ensures rest { to_run_of context.new ≡ to_run_in context.old.frames.items (start_part (Start.Operate x y operation.entry more.entry)) }
-    ensures settled { IsSettled context.new.focus context.new.frames.items }
-{
-    context.focus = Focus::Ready(Redex::Binary(
-        operation.line,
-        operation.operation,
-        operation.width,
-        x,
-        y,
-    ));
-    match more.split_first() {
-        None => {}
-        Some((next, others)) => context
-            .frames
-            .push_reserved(Frame::Hole(Hole::Left(next, others))),
-    }
-}
-
-// Puts down what stands around the expression that comes first: none where a part is rewritten next.
-#[tactic(auto, using(crate::proofs::Plug::to_run_last))]
-fn put_down<'a>(
-    alloc: Global,
-    start: &Start<'a>,
-    context: &mut Context<'a>,
-) -> Option<&'a Expression>
-    requires room { vec_len context.old.frames < vec_capacity context.old.frames }
-    ensures rest { IfNone result (to_run_of context.new ≡ to_run_in context.old.frames.items (start_part start.now)) }
-    ensures settled { IfNone result (IsSettled context.new.focus context.new.frames.items) }
-    ensures first { IfSome result (λ e. to_run_in context.new.frames.items (Expr (expression_of e.now)) ≡ to_run_in context.old.frames.items (start_part start.now)) }
-    ensures depth { IfSome result (λ e. suc (depth (expression_of e.now)) ≡ start_depth start.now) }
-{
-    match start {
-        Start::Ready(redex) => {
-            context.focus = Focus::Ready(*redex);
-            None
-        }
-        Start::Operate(x, y, operation, more) => {
-            operate(*x, *y, operation, more, context);
-            None
-        }
-        Start::Within(hole, e) => {
-            context.frames.push_reserved(Frame::Hole(*hole));
-            Some(e)
-        }
-        Start::Evaluate(e) => {
-            context.frames.push_reserved(Frame::Evaluate);
-            Some(e)
-        }
-        Start::Call(procedure, arguments) => match arguments.split_first() {
-            None => {
-                context.focus = Focus::Call(*procedure, Vec::new(alloc));
-                None
-            }
-            Some((e, more)) => {
-                context
-                    .frames
-                    .push_reserved(Frame::Argument(*procedure, Vec::new(alloc), more));
-                Some(e)
-            }
-        },
-    }
-}
 
 // An expression begins: what comes first of it is an expression again, or a part that is rewritten next. A refused growth of memory
 // leaves the expression to be evaluated.
@@ -115,21 +41,24 @@ fn begin_expression<'a>(
             context.focus = Focus::Expression(first);
             return Err(refused);
         }
-        match put_down(alloc, &expression_start(first), context) {
+        match expression_start(first, alloc, context) {
             None => return Ok(()),
             Some(inner) => first = inner,
         }
     }
 }
 
-// Goes on to what comes first.
-#[tactic(auto, using(crate::proofs::Plug::to_run_last))]
-fn begin<'a>(alloc: Global, start: &Start<'a>, context: &mut Context<'a>) -> Result<(), AllocError>
-    requires room { vec_len context.old.frames < vec_capacity context.old.frames }
-    ensures rest { to_run_of context.new ≡ to_run_in context.old.frames.items (start_part start.now) }
+// Goes on with the expression that comes first, if there is one.
+fn begin<'a>(
+    alloc: Global,
+    first: Option<&'a Expression>,
+    context: &mut Context<'a>,
+) -> Result<(), AllocError>
+    requires settled { IfNone first (IsSettled context.old.focus context.old.frames.items) }
+    ensures rest { (ss : Statements) → IfNone first.entry (to_run_of context.old ≡ ss) → IfSome first.entry (λ e. to_run_in context.old.frames.items (Expr (expression_of e.now)) ≡ ss) → to_run_of context.new ≡ ss }
     ensures settled { OnOk result (IsSettled context.new.focus context.new.frames.items) }
 {
-    match put_down(alloc, start, context) {
+    match first {
         None => Ok(()),
         Some(e) => begin_expression(alloc, e, context),
     }
@@ -146,7 +75,8 @@ fn begin_alone<'a>(
     ensures rest { to_run_of context.new ≡ to_run_in context.old.frames.items (ToRun (Then (statement_of s.now) End)) }
     ensures settled { OnOk result (IsSettled context.new.focus context.new.frames.items) }
 {
-    begin(alloc, &statement_start(s), context)
+    let first = statement_start(s, context);
+    begin(alloc, first, context)
 }
 
 // A target begins.
@@ -161,7 +91,8 @@ fn begin_target<'a>(
     ensures rest { to_run_of context.new ≡ to_run_in context.old.frames.items (aimed destination.entry (target_of target.now)) }
     ensures settled { OnOk result (IsSettled context.new.focus context.new.frames.items) }
 {
-    begin(alloc, &target_start(target, destination), context)
+    let first = target_start(target, destination, context);
+    begin(alloc, first, context)
 }
 
 // The bound of a DO begins, with which the index is compared.
@@ -176,8 +107,8 @@ fn begin_bound<'a>(
     ensures rest { to_run_of context.new ≡ to_run_in context.old.frames.items (ToRun (Then (Compare index (bound_of (loop_of rounds.now)) (loop_of rounds.now)) End)) }
     ensures settled { OnOk result (IsSettled context.new.focus context.new.frames.items) }
 {
-    let start = Start::Within(Hole::Comparing(index, rounds), &rounds.bound);
-    begin(alloc, &start, context)
+    let first = bound_start(index, rounds, context);
+    begin(alloc, first, context)
 }
 
 // A statement begins, before others.
@@ -211,7 +142,10 @@ fn at_end<'a>(alloc: Global, context: &mut Context<'a>) -> Result<(), AllocError
                     return begin_statement(alloc, s, others, context);
                 }
             },
-            Frame::Later(later) => return begin(alloc, &later.start(), context),
+            Frame::Later(later) => {
+                let first = later.start(context);
+                return begin(alloc, first, context);
+            }
             Frame::Running => {
                 context.focus = Focus::Ready(Redex::Ended);
                 return Ok(());
@@ -361,7 +295,10 @@ fn resume<'a>(alloc: Global, v: u16, context: &mut Context<'a>) -> Result<(), Al
 {
     match context.frames.pop() {
         None | Some(Frame::Evaluate) => at_end(alloc, context),
-        Some(Frame::Hole(hole)) => begin(alloc, &hole.filled(v), context),
+        Some(Frame::Hole(hole)) => {
+            let first = hole.filled(v, context);
+            begin(alloc, first, context)
+        }
         Some(Frame::Argument(procedure, values, more)) => argument(
             alloc, procedure, values, v, more, context,
         ),

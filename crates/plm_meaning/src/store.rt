@@ -181,20 +181,20 @@ impl Store {
     }
 
     /// Makes an access: what it answers, and its label. Reads and stores of variables have none.
-    pub fn touch(&mut self, access: Access) -> (u16, Option<Label>)
-        requires { Fits (access_of access) }
-        ensures answer { (c : ChipState) → Shows self.old.ports c → result.0 ≡ (touch board_chips (access_of access) (store_of self.old c)).0 }
-        ensures labels { (c : ChipState) → Shows self.old.ports c → labels_of result.1 ≡ (touch board_chips (access_of access) (store_of self.old c)).2 }
-        ensures store { (c : ChipState) → Shows self.old.ports c → Leaves self.new ((touch board_chips (access_of access) (store_of self.old c)).1) }
+    pub fn touch(&mut self, access: &Access) -> (u16, Option<Label>)
+        requires { Fits (access_of access.now) }
+        ensures answer { (c : ChipState) → Shows self.old.ports c → result.0 ≡ (touch board_chips (access_of access.now) (store_of self.old c)).0 }
+        ensures labels { (c : ChipState) → Shows self.old.ports c → labels_of result.1 ≡ (touch board_chips (access_of access.now) (store_of self.old c)).2 }
+        ensures store { (c : ChipState) → Shows self.old.ports c → Leaves self.new ((touch board_chips (access_of access.now) (store_of self.old c)).1) }
     {
         match access {
-            Access::Read(width, place) => (self.read(width, place), None),
-            Access::Write(width, place, v) => (0, self.write(width, place, v)),
+            Access::Read(width, place) => (self.read(*width, *place), None),
+            Access::Write(width, place, v) => (0, self.write(*width, *place, *v)),
             Access::Input(width, port) => {
-                let (v, label) = self.input(width, port);
+                let (v, label) = self.input(*width, *port);
                 (v, Some(label))
             }
-            Access::Output(width, port, v) => (0, Some(self.output(width, port, v))),
+            Access::Output(width, port, v) => (0, Some(self.output(*width, *port, *v))),
         }
     }
 }

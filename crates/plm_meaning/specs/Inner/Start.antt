@@ -1,9 +1,6 @@
 -- How often what comes first of an expression is itself an expression of which a part comes first.
 use Rattle.std.specs.Prelude.{ℕ, suc}
 use Rattle.plm_type.specs.Rest.{Expression, Constant, Plain, Variable, Location, Unary, Binary, Embedded, Input, Call, Value, Passing, Running, Expressions, NoMore, More, Reference, Refer, Subscripts, NoSubscripts, Subscript}
-use Rattle.plm_type.specs.View.{expression_of, expressions_of}
-use Rattle.plm_meaning.specs.declared.context.Start.{Start}
-use Rattle.plm_meaning.specs.declared.context.Start.TheVariants as start
 
 abbrev mutual
   pub depth : Expression → ℕ
@@ -30,10 +27,3 @@ abbrev mutual
   pub subscripts_depth : Subscripts → ℕ
   subscripts_depth NoSubscripts = 0
   subscripts_depth (Subscript stride e ss) = suc (depth e)
-
--- the same of what comes first of a part
-abbrev pub start_depth : Start → ℕ
-start_depth (start.Within h e) = suc (depth (expression_of e.now))
-start_depth (start.Evaluate e) = suc (depth (expression_of e.now))
-start_depth (start.Call n es) = arguments_depth (expressions_of es.now)
-start_depth _ = 0

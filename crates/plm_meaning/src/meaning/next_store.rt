@@ -67,14 +67,17 @@ impl Meaning<'_> {
         ensures ports { self.new.store.ports ≡ self.old.store.ports }
         ensures run { self.new.around ≡ self.old.around }
     {
+        let mut next = Action::Silent;
         match &mut self.handler {
             Some(context) => {
                 settle(self.alloc, context)?;
-                Ok(stored_by(&handler_action(context, &self.around)))
+                handler_action(context, &self.around, &mut next);
+                Ok(stored_by(&next))
             }
             None => {
                 settle(self.alloc, &mut self.main)?;
-                Ok(stored_by(&main_action(&self.main, &self.around)))
+                main_action(&self.main, &self.around, &mut next);
+                Ok(stored_by(&next))
             }
         }
     }

@@ -27,7 +27,7 @@ pub returns-in-Binary-clause-step : goal.returns-in-Binary-clause-step
 returns-in-Binary-clause-step c =
     let r = c.in-Binary in
     steps.rewritten c.args.around.now _ _ _ r.is
-    (subst (λ o. acting c.operate.result (λ v. value_left o) ≡ map_action Expr (operated r.line.module r.line.line o)) c.value.ensures c.operate.ensures.step)
+    (subst (λ o. acting c.operate.new.next (λ v. value_left o) ≡ map_action Expr (operated r.line.module r.line.line o)) c.value.ensures c.operate.ensures.step)
 
 pub returns-in-Store-clause-step : goal.returns-in-Store-clause-step
 returns-in-Store-clause-step c =

@@ -19,7 +19,7 @@ returns-clause-made c p shown =
     let s = m.around in
     let k = c.settle.new.context in
     let ps = procedures_in s in
-    let next_is = c.main_action-next.result in
+    let next_is = c.main_action.new.next in
     let going = left s k.focus in
     let act = acting next_is going in
     let put = to_run_in k.frames.items in
@@ -33,7 +33,7 @@ returns-clause-made c p shown =
           c.is_on_after-on.result c.is_halted_after-halted.result (state_of c.settle_counts.new.self made.0)
           (ap (option_map (λ h. Handler (to_run_of h))) c.requires) c.if-self.false
           (c.is_interrupted.ensures.can p shown)
-          (ap (λ t. next (offsets_of s) (sizes_of s) ps (Main t)) (sym c.in_ok-settle.ensures.rest) ∙ c.main_action-next.ensures.action)
+          (ap (λ t. next (offsets_of s) (sizes_of s) ps (Main t)) (sym c.in_ok-settle.ensures.rest) ∙ c.main_action.ensures.action)
           (moves.counted_map put c.is_interrupted.result act m.silents m.switches ∙ sym (c.counted.ensures going) ∙ c.in-Some.is)
           made.2
           (c.is_on_after-on.ensures going ∙ sym (moves.on_map put act m.on))
