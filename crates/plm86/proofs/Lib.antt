@@ -3,6 +3,7 @@ pub mod Headline
 pub mod Composition
 pub mod Meets
 mod Reading
+mod Streams
 mod Phases
 mod OneProgram
 mod BuiltRuns

@@ -3,7 +3,9 @@ use Rattle.std.proofs.Common.{◌≡◌, ◌∙◌, ℕ, ◌+◌, ◌≤◌, Lis
 use Rattle.std.proofs.lemmas.List.{take_at}
 use Rattle.std.specs.Io.KnownBytes.{Consumes, Keeps, IsAtEnd}
 use Rattle.std.proofs.KnownBytes.{Consumes-trans, Consumes-kept}
-use Rattle.plm86.specs.Input.{bounded, GivesAtMost}
+use Rattle.plm86.specs.Input.{bounded, GivesAtMost, GivesSoMany}
+use Rattle.plm86.specs.declared.input.ReadFault.{ReadFault}
+use Rattle.plm86.specs.declared.input.ReadFault.TheVariants.{Read, Memory}
 
 pub on_err : {T E : Type 0} (r : Result T E) (P : Type 0) → P → OnErr r P
 on_err (Ok x) P p = search rules
@@ -46,3 +48,16 @@ gave_none a b c bs most h k w = (bs, Consumes-kept a b c bs h k, all_within most
 pub within_more : (most : Option ℕ) (bs chunk : List ℕ) (read room n : ℕ) → read ≡ length bs → IfSome most (λ m. read + room ≤ m) → n ≤ room → IsWithin most (length (bs ++ take n chunk))
 within_more None bs chunk read room n e w le = search rules
 within_more (Some m) bs chunk read room n e w le = omega (arith, length-append bs (take n chunk), length-take n chunk)
+
+-- how many bytes a fault says were read
+abbrev read_of : ReadFault → ℕ
+read_of (Memory n) = n
+read_of (Read e) = 0
+
+pub so_long : (bs chunk : List ℕ) (read count n : ℕ) → read ≡ length bs → count ≤ length chunk → Memory (read + count) ≡ Memory n → length (bs ++ take count chunk) ≡ n
+so_long bs chunk read count n l le e =
+    let same : read + count ≡ n = ap read_of e in
+    omega (arith, length-append bs (take count chunk), length-take count chunk, same)
+
+pub gave_many : (a b c : Option (List ℕ)) (bs more : List ℕ) (n : ℕ) → Consumes a b bs → Consumes b c more → length (bs ++ more) ≡ n → GivesSoMany n a c
+gave_many a b c bs more n h k e = (bs ++ more, Consumes-trans a b c bs more h k, e)

@@ -1,5 +1,5 @@
 -- Inputs with a limit.
-use Rattle.std.specs.Prelude.{ℕ, ◌≡◌, List, Option, Some, None, take}
+use Rattle.std.specs.Prelude.{ℕ, ◌≡◌, List, Option, Some, None, take, length}
 use Rattle.std.specs.Io.KnownBytes.{Consumes}
 
 -- the bytes, or the first `most` of them
@@ -10,3 +10,7 @@ bounded (Some most) xs = take most xs
 -- a reader that tells its bytes has given some of them, one after another, and no more than `most`
 abbrev pub GivesAtMost : Option ℕ → (old new : Option (List ℕ)) → Type 0
 GivesAtMost most old new = (given : List ℕ) × Consumes old new given × (bounded most given ≡ given)
+
+-- a reader that tells its bytes has given this many of them
+abbrev pub GivesSoMany : ℕ → (old new : Option (List ℕ)) → Type 0
+GivesSoMany n old new = (given : List ℕ) × Consumes old new given × (length given ≡ n)

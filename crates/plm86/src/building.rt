@@ -109,7 +109,7 @@ fn write_made<R: Files, S: Sink>(
 ) -> Result<u8, Stop> {
     let mut rom_file = Output::new(rt, teller.alloc, outputs.rom)?;
     let others = other_files(rt, teller, outputs, made)?;
-    teller.show_remarks(made.given, errors)?;
+    teller.show_remarks(made.given, made.built.program.names(), errors)?;
     rom_file.write(rt, teller.alloc, made.rom)?;
     write_all(rt, teller.alloc, others)
 }

@@ -1,12 +1,12 @@
 //! Files that are read whole.
 
-ghost use Rattle.std.specs.Prelude.{◌≡◌, ◌≢◌, ◌+◌, ◌≤◌, IfOk, IfSome, OnErr, Some};
+ghost use Rattle.std.specs.Prelude.{◌≡◌, ◌≢◌, ◌+◌, ◌≤◌, ℕ, IfErr, IfOk, IfSome, OnErr, Some};
 ghost use Rattle.std.specs.IoError.{error_kind};
 ghost use Rattle.std.specs.declared.io.ErrorKind.TheVariants.{OutOfMemory};
-ghost use Rattle.plm86.specs.Input.{bounded, GivesAtMost};
+ghost use Rattle.plm86.specs.Input.{bounded, GivesAtMost, GivesSoMany};
 ghost use Rattle.plm86.specs.declared.input.ReadFault.TheVariants as fault;
 
-use std::alloc::{AllocError, Global};
+use std::alloc::Global;
 use std::io::{Error, ErrorKind, Read};
 
 // The bytes that a reader is asked for at one time.
@@ -17,27 +17,20 @@ const CHUNK: usize = 16_384;
 pub enum ReadFault {
     /// The reader failed, and why.
     Read(Error),
-    /// A growth of memory was refused.
-    Memory,
+    /// A growth of memory was refused, once so many bytes were read.
+    Memory(usize),
 }
 
-impl From<Error> for ReadFault {
-    ghost from_gives = { λ e f. (error_kind e ≡ OutOfMemory → f ≡ fault.Memory) × (error_kind e ≢ OutOfMemory → f ≡ fault.Read e) };
-
-    fn from(error: Error) -> ReadFault {
-        if error.kind() == ErrorKind::OutOfMemory {
-            ReadFault::Memory
-        } else {
-            ReadFault::Read(error)
-        }
-    }
-}
-
-impl From<AllocError> for ReadFault {
-    ghost from_gives = { λ _ f. f ≡ fault.Memory };
-
-    fn from(_refused: AllocError) -> ReadFault {
-        ReadFault::Memory
+// The fault for a reader's error, once so many bytes were read.
+fn fault_of(error: Error, read: usize) -> ReadFault
+    ensures memory { error_kind error ≡ OutOfMemory → result ≡ fault.Memory read }
+    ensures reader { error_kind error ≢ OutOfMemory → result ≡ fault.Read error }
+    ensures counted { (n : ℕ) → result ≡ fault.Memory n → n ≡ read }
+{
+    if error.kind() == ErrorKind::OutOfMemory {
+        ReadFault::Memory(read)
+    } else {
+        ReadFault::Read(error)
     }
 }
 
@@ -58,8 +51,8 @@ fn room(most: Option<usize>, read: usize) -> usize
 ///
 /// # Errors
 ///
-/// `Read` where the reader failed or has no end, and `Memory` where a growth of memory was refused: the reader has then given no more than its
-/// first `most` bytes.
+/// `Read` where the reader failed or has no end, and `Memory` where a growth of memory was refused, with the number of bytes that were read: the
+/// reader has then given no more than its first `most` bytes.
 pub fn read_all<R: Read>(
     alloc: Global,
     reader: &mut R,
@@ -67,19 +60,24 @@ pub fn read_all<R: Read>(
 ) -> Result<Vec<u8>, ReadFault>
     ensures read { IfOk result (λ v. IfSome (R.remaining reader.old) (λ xs. v.items ≡ bounded most xs)) }
     ensures refused { OnErr result (GivesAtMost most (R.remaining reader.old) (R.remaining reader.new)) }
+    ensures counted { IfErr result (λ f. (n : ℕ) → f ≡ fault.Memory n → GivesSoMany n (R.remaining reader.old) (R.remaining reader.new)) }
 {
     let mut bytes = Vec::new(alloc);
     let mut chunk = [0; CHUNK];
     for _ in 0..u64::MAX {
-        let room = room(most, bytes.len());
+        let read = bytes.len();
+        let room = room(most, read);
         if room == 0 {
             return Ok(bytes);
         }
         match reader.read(&mut chunk[..room]) {
             Ok(0) => return Ok(bytes),
-            Ok(count) => bytes.extend_from_slice(&chunk[..count])?,
+            Ok(count) => match bytes.extend_from_slice(&chunk[..count]) {
+                Ok(()) => {}
+                Err(_) => return Err(ReadFault::Memory(read + count)),
+            },
             Err(error) if error.kind() == ErrorKind::Interrupted => continue,
-            Err(error) => return Err(ReadFault::from(error)),
+            Err(error) => return Err(fault_of(error, read)),
         }
     }
     Err(ReadFault::Read(Error::other("it has no end")))

@@ -29,6 +29,8 @@ mod sources;
 mod status;
 mod stop;
 mod telling;
+mod unfinished;
+mod waveform;
 mod writing;
 
 use building::build_rom;

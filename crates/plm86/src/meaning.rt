@@ -14,14 +14,14 @@ use crate::sources::{build_sources, read_texts, sources_of};
 use crate::stop::Stop;
 use crate::telling::{ReadFor, Teller};
 use board::Schedule;
+use buffered_sink::BufferedSink;
 use layout_link::RomSize;
 use listing_map::put_bad_line;
 use plm_decl::Names;
 use plm_type::warnings;
 use std::alloc::{AllocError, Global};
-use std::io::{BufWriter, Write};
 use std::mem::forget;
-use word86::{Fault, PowerOn, Sink, WriterSink};
+use word86::{Fault, PowerOn, Sink};
 
 /// `mean [--turns] [--watch NAME] SCHEDULE SOURCE...`: all files are read first, and the schedule's faults come before others. The sources are built for the
 /// largest ROM, so that the objects lie where its image has them; then the warnings and notes are shown, and the meaning is run.
@@ -87,7 +87,7 @@ fn show_warnings<S: Sink>(
     errors: &mut S,
 ) -> Result<(), Stop> {
     let given = teller.or_refusal(warnings(teller.alloc, &built.program))?;
-    Ok(teller.show_remarks(&given, errors)?)
+    Ok(teller.show_remarks(&given, built.program.names(), errors)?)
 }
 
 // What is watched, where the program has it.
@@ -161,13 +161,10 @@ fn trace(
     watching: Watching<'_>,
 ) -> Result<MeanEnd, Fault> {
     let alloc = teller.alloc;
-    let Ok(mut output) = BufWriter::new(alloc, rt.stdout()) else {
-        return Err(Fault::Memory);
-    };
-    let mut sink = WriterSink::new(&mut output);
+    let mut sink = BufferedSink::new(alloc, rt.stdout())?;
     let end = run_as_wanted(alloc, built, schedule, watching, &mut sink)?;
     put_bad(teller, end, &mut sink)?;
-    match output.flush() {
+    match sink.flush() {
         Ok(()) => Ok(end),
         Err(_) => Err(CANNOT_WRITE),
     }

@@ -1,10 +1,10 @@
-//! The files that a build writes, and that no source and no other output is lost by one.
+//! The files that a build or a run writes, and that by none of them a source, another output or what goes to a standard stream is lost.
 
-ghost use Rattle.std.specs.Prelude.{◌≡◌, IfOk, length, vec_len};
+ghost use Rattle.std.specs.Prelude.{◌≡◌, ◌+◌, ◌<◌, IfOk, length, vec_len};
 
 use crate::destination::{Destination, first_clash};
 use crate::order::RomForms;
-use crate::paths::{destination_of, path_of};
+use crate::paths::{destination_of, path_of, stream_of};
 use crate::stop::Stop;
 use std::alloc::{AllocError, Global};
 use std::path::PathBuf;
@@ -35,7 +35,22 @@ pub(crate) enum Purpose {
     Source,
     /// A file that a run reads: a ROM, a schedule or a map.
     Input,
+    /// The file of standard output, or that of standard error.
+    StandardOutput,
+    StandardError,
 }
+
+/// The paths of the standard streams' files, and what they are.
+const STREAMS: [Named<'static>; 2] = [
+    Named {
+        purpose: Purpose::StandardOutput,
+        name: "/proc/self/fd/1",
+    },
+    Named {
+        purpose: Purpose::StandardError,
+        name: "/proc/self/fd/2",
+    },
+];
 
 impl Purpose {
     /// Its word in a message.
@@ -52,6 +67,8 @@ impl Purpose {
             Purpose::Picture => "picture",
             Purpose::Source => "source",
             Purpose::Input => "input",
+            Purpose::StandardOutput => "file of standard output",
+            Purpose::StandardError => "file of standard error",
         }
     }
 }
@@ -69,13 +86,15 @@ impl Purpose {
             | Purpose::Waveform
             | Purpose::Picture
             | Purpose::Source => "a",
+            Purpose::StandardOutput | Purpose::StandardError => "the",
         }
     }
 
-    /// Whether such a file is read, and not written.
-    pub fn is_read(self) -> bool {
+    /// What an output of the same file does to it.
+    pub fn loss(self) -> Loss {
         match self {
-            Purpose::Source | Purpose::Input => true,
+            Purpose::Source | Purpose::Input => Loss::Read,
+            Purpose::StandardOutput | Purpose::StandardError => Loss::Stream,
             Purpose::Rom
             | Purpose::Listing
             | Purpose::Map
@@ -84,9 +103,17 @@ impl Purpose {
             | Purpose::Odd
             | Purpose::Code
             | Purpose::Waveform
-            | Purpose::Picture => false,
+            | Purpose::Picture => Loss::Written,
         }
     }
+}
+
+/// How a file is lost by an output: it is read, is that of a standard stream, or is an output itself.
+#[derive(Clone, Copy)]
+pub(crate) enum Loss {
+    Read,
+    Stream,
+    Written,
 }
 
 /// A file of a build or a run, by the name that it was given.
@@ -151,7 +178,8 @@ fn destinations_of<'a, R: Files>(
     Ok(destinations)
 }
 
-/// Refuses a build one of whose files would be lost by an output: a source, or another output. It opens none of them.
+/// Refuses a build one of whose files would be lost by an output: a source, another output, or that of standard output or standard error. It opens none
+/// of them.
 pub(crate) fn refuse_losses<R: Files>(
     rt: &R,
     alloc: Global,
@@ -164,7 +192,31 @@ pub(crate) fn refuse_losses<R: Files>(
     refuse_clash(rt, alloc, &files, written)
 }
 
-// Refuses files one of which would be lost by one of the first `written` of them.
+// The file at this place, where the standard streams' stand behind the others.
+fn named_at<'n>(files: &[Named<'n>], place: usize) -> Named<'n>
+    requires { place < length files.now + 2 }
+{
+    match files.get(place) {
+        Some(named) => *named,
+        None => STREAMS[place - files.len()],
+    }
+}
+
+// What the files lead to, and behind them what the standard streams go to.
+fn all_destinations<'a, R: Files>(
+    rt: &R,
+    alloc: Global,
+    paths: &'a [PathBuf],
+) -> Result<Vec<Destination<'a>>, Stop>
+    ensures { IfOk result (λ destinations. vec_len destinations ≡ length paths.now + 2) }
+{
+    let mut destinations = destinations_of(rt, alloc, paths)?;
+    destinations.push(stream_of(rt, STREAMS[0].name))?;
+    destinations.push(stream_of(rt, STREAMS[1].name))?;
+    Ok(destinations)
+}
+
+// Refuses files one of which would be lost by one of the first `written` of them, and those that would take the place of a standard stream's.
 fn refuse_clash<R: Files>(
     rt: &R,
     alloc: Global,
@@ -172,9 +224,9 @@ fn refuse_clash<R: Files>(
     written: usize,
 ) -> Result<(), Stop> {
     let paths = paths_of(rt, alloc, files)?;
-    let destinations = destinations_of(rt, alloc, &paths)?;
+    let destinations = all_destinations(rt, alloc, &paths)?;
     match first_clash(&destinations, written) {
-        Some((k, m)) => Err(Stop::one_file(alloc, files[k], files[m])?),
+        Some((k, m)) => Err(Stop::one_file(alloc, named_at(files, k), named_at(files, m))?),
         None => Ok(()),
     }
 }
@@ -195,7 +247,8 @@ fn push_wanted<'a>(
     Ok(())
 }
 
-/// Refuses a run one of whose files would be lost by one that it writes: one that it reads, or another that it writes. It opens none of them.
+/// Refuses a run one of whose files would be lost by one that it writes: one that it reads, another that it writes, or that of standard output or standard
+/// error. It opens none of them.
 pub(crate) fn refuse_run_losses<'a, R: Files>(
     rt: &R,
     alloc: Global,

@@ -69,8 +69,16 @@ pub(crate) fn destination_of<'a, R: Files>(rt: &R, path: Path<'a>) -> Destinatio
     }
 }
 
-// Whether bytes that are written there are not kept.
-fn is_passing(found: &Metadata) -> bool {
+/// What the program's stream at this path goes to. Where that passes bytes on, or is closed, nothing is lost with it.
+pub(crate) fn stream_of<'a, R: Files>(rt: &R, path: &str) -> Destination<'a> {
+    match Path::new(path).metadata(rt) {
+        Ok(found) if found.is_file() => Destination::Stream(inode_of(&found)),
+        Ok(_) | Err(_) => Destination::Passing,
+    }
+}
+
+/// Whether bytes that are written there are not kept.
+pub(crate) fn is_passing(found: &Metadata) -> bool {
     let kind = found.file_type();
     kind.is_char_device() || kind.is_fifo() || kind.is_socket()
 }

@@ -4,7 +4,7 @@
 //! the ROM is read before the schedule and both before a fault is answered, the schedule's before the ROM's, is shown by `tests/run`, and what
 //! is watched by `tests/watched`.
 
-ghost use Rattle.std.specs.Prelude.{◌≡◌, ◌≤◌, ◌<◌, IfOk, IfErr, MatchResult};
+ghost use Rattle.std.specs.Prelude.{◌≡◌, IfErr, MatchResult};
 ghost use Rattle.word86.specs.declared.fault.Fault.TheVariants.{At};
 ghost use Rattle.word86.specs.declared.number.Number.TheVariants.{E704};
 ghost use Rattle.ppi_kbd.specs.Chips.{ChipState};
@@ -22,17 +22,18 @@ use crate::progress::{Progress, run_in_parts};
 use crate::status::status;
 use crate::stop::Stop;
 use crate::telling::{ReadFor, Teller};
+use crate::waveform::WaveBody;
 use crate::writing::Output;
 use board::{
     Addresses, Board, End, PlaceName, Schedule, SignalChanges, Watch, WatchedEnd, address_of,
     addresses_of, picture_of, put_coloured_screen, put_dump, put_registers, put_screen, read_names,
     read_schedule,
 };
+use buffered_sink::BufferedSink;
 use listing_map::{NOWHERE, object_line};
 use std::alloc::{AllocError, Global};
-use std::io::{BufWriter, Write, sink};
 use std::rt::Files;
-use word86::{Fault, PowerOn, Sink, WriterSink, put_all};
+use word86::{Fault, PowerOn, Sink, put_all};
 
 /// A ROM's bytes, and one more, which tells that a file is longer than any ROM.
 const ROM_LIMIT: usize = 65_537;
@@ -64,27 +65,50 @@ fn run_plainly<S: Sink>(
     }
 }
 
-/// Runs the board turn by turn where something is watched that `run` does not write.
+/// Runs the board, and where something is watched that `run` does not write, watches it. What changes on lines and ports goes to the waveform's body,
+/// where one is wanted.
 fn run_as_wanted<S: Sink>(
     rt: &HostRuntime,
     alloc: Global,
     board: &mut Board,
     schedule: &Schedule,
     wanted: Wanted<'_, '_>,
-    changes: &mut SignalChanges,
+    shown: &mut Shown,
     sink: &mut S,
-) -> Result<End, Fault> {
+) -> Result<WatchedEnd, Fault> {
     let watch = wanted.watch;
     if watch.stop_at.is_some() || watch.names.is_some() || wanted.showing.waveform.is_some() {
-        let WatchedEnd { end, turns } = board.run_watched(alloc, schedule, watch, changes, sink)?;
-        changes.end(turns);
-        return Ok(end);
+        return run_watched(alloc, board, schedule, watch, shown, sink);
     }
-    if watch.turns {
-        board.run_numbered(schedule, sink)
+    let end = if watch.turns {
+        board.run_numbered(schedule, sink)?
     } else {
-        run_plainly(rt, alloc, board, schedule, sink)
-    }
+        run_plainly(rt, alloc, board, schedule, sink)?
+    };
+    let turns = schedule.stop();
+    Ok(WatchedEnd { end, turns })
+}
+
+/// What changes on lines and ports in a run, and the waveform's body.
+#[derive(Drop)]
+struct Shown {
+    changes: SignalChanges,
+    body: WaveBody,
+}
+
+/// Runs the board and watches it.
+fn run_watched<S: Sink>(
+    alloc: Global,
+    board: &mut Board,
+    schedule: &Schedule,
+    watch: Watch<'_>,
+    shown: &mut Shown,
+    sink: &mut S,
+) -> Result<WatchedEnd, Fault> {
+    let Shown { changes, body } = shown;
+    let ended = board.run_watched(alloc, schedule, watch, changes, body, sink)?;
+    changes.put_end(ended.turns, body)?;
+    Ok(ended)
 }
 
 /// Runs the board and writes the trace to standard output, each line as it is wanted, and then what else is shown.
@@ -94,19 +118,16 @@ fn trace(
     board: &mut Board,
     schedule: &Schedule,
     wanted: Wanted<'_, '_>,
-    changes: &mut SignalChanges,
-) -> Result<End, Fault> {
-    let Ok(mut output) = BufWriter::new(alloc, rt.stdout()) else {
-        return Err(Fault::Memory);
-    };
-    let mut sink = WriterSink::new(&mut output);
-    let end = run_as_wanted(rt, alloc, board, schedule, wanted, changes, &mut sink)?;
+    shown: &mut Shown,
+) -> Result<WatchedEnd, Fault> {
+    let mut sink = BufferedSink::new(alloc, rt.stdout())?;
+    let ended = run_as_wanted(rt, alloc, board, schedule, wanted, shown, &mut sink)?;
     let text = shown_at_end(alloc, board, wanted)?;
     if put_all(&mut sink, &text).is_err() {
         return Err(CANNOT_WRITE);
     }
-    match output.flush() {
-        Ok(()) => Ok(end),
+    match sink.flush() {
+        Ok(()) => Ok(ended),
         Err(_) => Err(CANNOT_WRITE),
     }
 }
@@ -216,62 +237,20 @@ fn power_on_of(alloc: Global, schedule: &Schedule) -> Result<PowerOn, Stop> {
     }
 }
 
-/// How many turns are made at once where that is looked for in which a processor halted: the parts of a run are few, and the turns of a part.
-fn part_length(stop: u32) -> u32
-    ensures { 0 < result }
-{
-    (stop / 1024).max(65_536)
-}
-
-/// The turn with which the part of a run begins in which the processor halted with interrupts off, or the stop.
-fn part_of_death(alloc: Global, run: Run<'_>, schedule: &Schedule) -> Result<u32, Stop>
-    ensures { IfOk result (λ n. n ≤ schedule.now.stop) }
-{
-    let mut board = board_of(alloc, run, schedule)?;
-    let turn = first_part_of_death(&mut board, schedule);
-    drop(board);
-    Ok(turn)
-}
-
-/// The same of a board that is at its reset.
-fn first_part_of_death(board: &mut Board, schedule: &Schedule) -> u32
-    ensures { result ≤ schedule.now.stop }
-{
-    let length = part_length(schedule.stop());
-    let mut turn = 0;
-    while turn < schedule.stop() {
-        let next = turn + length.min(schedule.stop() - turn);
-        let _end = board.run_part(schedule, turn, next, &mut WriterSink::new(sink()));
-        if board.is_dead() {
-            return turn;
-        }
-        turn = next;
-    }
-    turn
-}
-
-/// The turn from which on the processor halts with interrupts off. The run is made once more, and then again up to the part in which that is.
-fn turn_of_death(alloc: Global, run: Run<'_>, schedule: &Schedule) -> Result<u32, Stop> {
-    let from = part_of_death(alloc, run, schedule)?;
-    let mut board = board_of(alloc, run, schedule)?;
-    let _end = board.run_part(schedule, 0, from, &mut WriterSink::new(sink()));
-    let turn = board.turn_of_death(schedule, from);
-    drop(board);
-    Ok(turn)
-}
-
-/// Says on standard error at which turn the processor halted with interrupts off, where it did and faults are explained.
+/// Says on standard error at which of so many turns the processor halted with interrupts off, where it did and faults are explained.
 fn say_dead<S: Sink>(
     alloc: Global,
     run: Run<'_>,
     board: &Board,
-    schedule: &Schedule,
+    turns: u32,
     errors: &mut S,
 ) -> Result<(), Stop> {
-    if !run.telling.explains || !board.is_dead() {
+    if !run.telling.explains {
         return Ok(());
     }
-    let turn = turn_of_death(alloc, run, schedule)?;
+    let Some(turn) = board.turn_of_death(turns) else {
+        return Ok(());
+    };
     let words = format!(in alloc;
         "note: the processor halts with interrupts off from turn {turn} on, and nothing wakes it"
     )?;
@@ -334,14 +313,14 @@ fn write_wanted<R: Files>(
     }
 }
 
-/// The text of what changed, where its file is wanted.
-fn text_of_changes(
+/// What stands in front of the waveform's body, where its file is wanted.
+fn wanted_head(
     alloc: Global,
     showing: Showing<'_>,
     changes: &SignalChanges,
 ) -> Result<Vec<u8>, AllocError> {
     if showing.waveform.is_some() {
-        changes.text()
+        changes.head()
     } else {
         Ok(Vec::new(alloc))
     }
@@ -367,7 +346,7 @@ struct WantedFiles<'a> {
     picture: Option<Output<'a>>,
 }
 
-/// Opens the files that are wanted beside the trace.
+/// The files that are wanted beside the trace, which nothing is written to yet.
 fn wanted_files<'a>(
     rt: &HostRuntime,
     alloc: Global,
@@ -378,18 +357,16 @@ fn wanted_files<'a>(
     Ok(WantedFiles { waveform, picture })
 }
 
-/// Writes the picture, where it is wanted, once it is made, and before it the waveform.
-fn write_pictured(
+/// Refuses a file that is wanted and cannot be written.
+fn refuse_unwritable(
     rt: &HostRuntime,
     alloc: Global,
-    files: &mut WantedFiles<'_>,
-    showing: Showing<'_>,
-    waveform: &[u8],
-    board: &Board,
+    file: &mut Option<Output<'_>>,
 ) -> Result<(), Stop> {
-    let picture = wanted_picture(alloc, showing, board)?;
-    write_wanted(rt, alloc, &mut files.waveform, waveform)?;
-    write_wanted(rt, alloc, &mut files.picture, &picture)
+    match file {
+        Some(file) => file.refuse_unwritable(rt, alloc),
+        None => Ok(()),
+    }
 }
 
 /// Writes the waveform and the picture, where they are wanted, once both are made.
@@ -398,14 +375,45 @@ fn write_shown(
     alloc: Global,
     files: &mut WantedFiles<'_>,
     showing: Showing<'_>,
-    changes: &SignalChanges,
+    shown: Shown,
     board: &Board,
 ) -> Result<(), Stop> {
-    let waveform = text_of_changes(alloc, showing, changes)?;
-    write_pictured(rt, alloc, files, showing, &waveform, board)
+    let Shown { changes, body } = shown;
+    let head = wanted_head(alloc, showing, &changes)?;
+    drop(changes);
+    let picture = wanted_picture(alloc, showing, board)?;
+    write_waveform(rt, alloc, &mut files.waveform, &head, body)?;
+    write_wanted(rt, alloc, &mut files.picture, &picture)
 }
 
-/// Runs a board, and writes what is shown beside the trace.
+/// Writes the waveform, where it is wanted: what stands in front of its body, and the body.
+fn write_waveform(
+    rt: &HostRuntime,
+    alloc: Global,
+    file: &mut Option<Output<'_>>,
+    head: &[u8],
+    body: WaveBody,
+) -> Result<(), Stop> {
+    match file {
+        Some(file) => body.write(rt, alloc, file, head),
+        None => Ok(()),
+    }
+}
+
+/// The stop for a run that was cut short: by want of memory, or since standard output or the waveform's body cannot be written.
+fn cut_short_by(
+    alloc: Global,
+    fault: Fault,
+    files: &WantedFiles<'_>,
+    shown: &Shown,
+) -> Result<Stop, Stop> {
+    match shown.body.stop(alloc, &files.waveform)? {
+        Some(stop) => Ok(stop),
+        None => Ok(cut_short(fault)),
+    }
+}
+
+/// Runs a board, and writes what is shown beside the trace. A file that cannot be written is told before the run.
 fn run_board<S: Sink>(
     rt: &HostRuntime,
     run: Run<'_>,
@@ -416,15 +424,21 @@ fn run_board<S: Sink>(
     errors: &mut S,
 ) -> Result<u8, Stop> {
     let alloc = rt.alloc();
-    let mut changes = SignalChanges::new(alloc, wanted.showing.waveform.is_some());
-    let end = trace(rt, alloc, board, schedule, wanted, &mut changes);
-    if let Err(fault) = end {
-        return Err(cut_short(fault));
+    refuse_unwritable(rt, alloc, &mut files.waveform)?;
+    refuse_unwritable(rt, alloc, &mut files.picture)?;
+    let mut shown = Shown {
+        body: WaveBody::new(rt, alloc, &mut files.waveform)?,
+        changes: SignalChanges::new(alloc, wanted.showing.waveform.is_some()),
+    };
+    match trace(rt, alloc, board, schedule, wanted, &mut shown) {
+        Err(fault) => Err(cut_short_by(alloc, fault, files, &shown)?),
+        Ok(WatchedEnd { end, turns }) => {
+            write_shown(rt, alloc, files, wanted.showing, shown, board)?;
+            // The run is made: where memory is wanting for the note, nothing else is lost.
+            let _ = say_dead(alloc, run, board, turns, errors);
+            Ok(status(&Ok(end)))
+        }
     }
-    write_shown(rt, alloc, files, wanted.showing, &changes, board)?;
-    // The run is made: where memory is wanting for the note, nothing else is lost.
-    let _ = say_dead(alloc, run, board, schedule, errors);
-    Ok(status(&end))
 }
 
 /// Runs a ROM.

@@ -3,16 +3,20 @@
 //! Texts and statuses have no contract: `tests/run` shows one of each kind, and `tests/pages` each message of `docs/ERRORS.md`.
 
 use crate::order::{MessageFormat, Telling};
-use crate::outputs::Named;
+use crate::outputs::{Loss, Named};
 use listing_map::{NOWHERE, UNWRITTEN, object_line};
 use std::alloc::{AllocError, AllocFailed, Global};
 use word86::{Sink, put_all};
+
+const OUT_OF_MEMORY: &[u8] = b"plm86: out of memory\n";
 
 /// Why the program stops early.
 #[derive(Drop)]
 pub enum Stop {
     /// A growth of memory was refused.
     Memory,
+    /// A growth of memory was refused while a file was read: its name, and how much of it was read.
+    MemoryAfter(String, String),
     /// The words of the command line were refused: what to print.
     Words(String),
     /// A file that cannot be read, and why.
@@ -27,7 +31,8 @@ pub enum Stop {
 #[derive(Drop)]
 pub enum Unwritten {
     StandardOutput,
-    File(String),
+    /// A file, by its name, and why.
+    File(String, String),
 }
 
 impl From<AllocError> for Stop {
@@ -52,23 +57,28 @@ impl Stop {
         let (name, other) = (written.name, lost.name);
         let (purpose, other_purpose) = (written.purpose.word(), lost.purpose.word());
         let article = lost.purpose.article();
-        let text = match (lost.purpose.is_read(), name == other) {
-            (true, true) => {
+        let text = match (lost.purpose.loss(), name == other) {
+            (Loss::Stream, _) => {
+                format!(in alloc;
+                    "error: {name} is the {other_purpose} and would be written over\n"
+                )?
+            }
+            (Loss::Read, true) => {
                 format!(in alloc;
                     "error: {name} is {article} {other_purpose} and would be written over\n"
                 )?
             }
-            (true, false) => {
+            (Loss::Read, false) => {
                 format!(in alloc;
                     "error: {name} is the {other_purpose} {other} and would be written over\n"
                 )?
             }
-            (false, true) => {
+            (Loss::Written, true) => {
                 format!(in alloc;
                     "error: {name} is named twice, as {purpose} and as {other_purpose}\n"
                 )?
             }
-            (false, false) => {
+            (Loss::Written, false) => {
                 format!(in alloc;
                     "error: {name} and {other} are one file, named as {purpose} and as {other_purpose}\n"
                 )?
@@ -82,7 +92,12 @@ impl Stop {
         // Where standard error cannot be written, the status still tells.
         match self {
             Stop::Memory => {
-                let _ = put_all(errors, b"plm86: out of memory\n");
+                let _ = put_all(errors, OUT_OF_MEMORY);
+                1
+            }
+            Stop::MemoryAfter(name, read) => {
+                let _ = put_all(errors, OUT_OF_MEMORY);
+                message_of(name, read.as_str(), "").put(alloc, telling, errors);
                 1
             }
             Stop::Words(text) => {
@@ -90,13 +105,7 @@ impl Stop {
                 2
             }
             Stop::CannotRead(name, reason) => {
-                let message = FileMessage {
-                    name: name.as_str(),
-                    number: None,
-                    words: "cannot read",
-                    reason: reason.as_str(),
-                };
-                message.put(alloc, telling, errors);
+                message_of(name, "cannot read", reason.as_str()).put(alloc, telling, errors);
                 3
             }
             Stop::CannotWrite(unwritten) => {
@@ -116,8 +125,18 @@ impl Stop {
 struct FileMessage<'m> {
     name: &'m str,
     number: Option<&'static str>,
-    words: &'static str,
+    words: &'m str,
     reason: &'m str,
+}
+
+// What is said of a file without a number.
+fn message_of<'m>(name: &'m String, words: &'m str, reason: &'m str) -> FileMessage<'m> {
+    FileMessage {
+        name: name.as_str(),
+        number: None,
+        words,
+        reason,
+    }
 }
 
 impl Unwritten {
@@ -130,12 +149,7 @@ impl Unwritten {
                 words: "cannot write",
                 reason: UNWRITTEN,
             },
-            Unwritten::File(name) => FileMessage {
-                name: name.as_str(),
-                number: None,
-                words: "cannot write",
-                reason: "",
-            },
+            Unwritten::File(name, reason) => message_of(name, "cannot write", reason.as_str()),
         }
     }
 }
@@ -150,7 +164,7 @@ impl<'m> FileMessage<'m> {
                     let _ = put_all(errors, &line);
                 }
                 Err(_) => {
-                    let _ = put_all(errors, b"plm86: out of memory\n");
+                    let _ = put_all(errors, OUT_OF_MEMORY);
                 }
             },
         }

@@ -7,8 +7,9 @@ use crate::stop::Stop;
 use layout_link::RomSize;
 use listing_map::{
     Explainer, Explanation, FaultAt, NamedText, Place, controls, explain_run, explained_lines,
-    fault_line, lints, number_and_words, object_line,
+    fault_line, lints, note_line, number_and_words, object_line,
 };
+use plm_decl::Names;
 use plm_type::Warning;
 use std::alloc::{AllocError, Global};
 use word86::{Fault, Number, Sink, WriterSink, put_all};
@@ -264,12 +265,6 @@ impl<'s, 'a> Teller<'s, 'a> {
         text.extend_from_slice(&object)
     }
 
-    /// Puts a note's place behind a text: the line in parentheses, as a fault has it.
-    fn put_note_place(&self, line: u32, text: &mut Vec<u8>) -> Result<(), AllocError> {
-        let place = format!(in self.alloc; "({line}): note: ")?;
-        text.extend_from_slice(place.as_str().as_bytes())
-    }
-
     /// Puts a note's line behind a text.
     fn put_note_line(
         &self,
@@ -278,10 +273,8 @@ impl<'s, 'a> Teller<'s, 'a> {
         words: &[u8],
         text: &mut Vec<u8>,
     ) -> Result<(), AllocError> {
-        text.extend_from_slice(name.as_bytes())?;
-        self.put_note_place(line, text)?;
-        text.extend_from_slice(words)?;
-        text.extend_from_slice(b"\n")
+        let note = note_line(self.alloc, name, line, words)?;
+        text.extend_from_slice(&note)
     }
 
     /// Puts a note behind a text: with these words, at a line and a column of a file.
@@ -306,23 +299,11 @@ impl<'s, 'a> Teller<'s, 'a> {
         }
     }
 
-    /// Puts a note behind a text: that a control's word has no effect.
-    fn put_control(
-        &self,
-        name: &str,
-        line: u32,
-        word: &[u8],
-        text: &mut Vec<u8>,
-    ) -> Result<(), AllocError> {
-        let mut words = Vec::from_slice(self.alloc, word)?;
-        words.extend_from_slice(b" has no effect here")?;
-        self.put_note(name, line, 1, &words, text)
-    }
-
     /// Puts a note behind a text for each control of a module.
     fn put_controls(&self, source: &Source<'_>, text: &mut Vec<u8>) -> Result<(), AllocError> {
         for control in controls(self.alloc, source.text)? {
-            self.put_control(source.name, control.line, control.word, text)?;
+            let words = control.words(self.alloc)?;
+            self.put_note(source.name, control.line, 1, &words, text)?;
         }
         Ok(())
     }
@@ -341,28 +322,33 @@ impl<'s, 'a> Teller<'s, 'a> {
     }
 
     /// Puts behind a text the notes on what compiles and is mostly a mistake.
-    fn put_lints(&self, sources: &[NamedText<'_>], text: &mut Vec<u8>) -> Result<(), AllocError> {
-        for lint in lints(self.alloc, sources)? {
+    fn put_lints(
+        &self,
+        sources: &[NamedText<'_>],
+        names: &Names,
+        text: &mut Vec<u8>,
+    ) -> Result<(), AllocError> {
+        for lint in lints(self.alloc, sources, names)? {
             self.put_note(lint.file, lint.line, lint.column, &lint.words, text)?;
         }
         Ok(())
     }
 
     /// The same where they are wanted.
-    fn put_wanted_lints(&self, text: &mut Vec<u8>) -> Result<(), AllocError> {
+    fn put_wanted_lints(&self, names: &Names, text: &mut Vec<u8>) -> Result<(), AllocError> {
         if !self.telling.lints {
             return Ok(());
         }
         let texts = named_texts(self.alloc, self.sources)?;
-        self.put_lints(&texts, text)
+        self.put_lints(&texts, names, text)
     }
 
     /// The warnings and notes of a program, as they are shown.
-    fn remarks(&self, given: &[Warning]) -> Result<Vec<u8>, AllocError> {
+    fn remarks(&self, given: &[Warning], names: &Names) -> Result<Vec<u8>, AllocError> {
         let mut text = Vec::new(self.alloc);
         self.put_warnings(given, &mut text)?;
         self.put_notes(&mut text)?;
-        self.put_wanted_lints(&mut text)?;
+        self.put_wanted_lints(names, &mut text)?;
         Ok(text)
     }
 
@@ -370,9 +356,10 @@ impl<'s, 'a> Teller<'s, 'a> {
     pub fn show_remarks<S: Sink>(
         &self,
         given: &[Warning],
+        names: &Names,
         errors: &mut S,
     ) -> Result<(), AllocError> {
-        let remarks = self.remarks(given)?;
+        let remarks = self.remarks(given, names)?;
         let _ = put_all(errors, &remarks);
         Ok(())
     }
