@@ -53,7 +53,7 @@ IsQuotedPart line front before marked behind back text = (mark : List ℕ)
     × (text ≡ (margin line ++ (front ++ shown_text before) ++ shown_text marked ++ shown_text behind ++ back ++ line_end) ++ mark)
     × IsMarkLine (length (margin line)) (front ++ shown_text before) (shown_text marked) mark
 
--- which part that is: a line of at most 160 bytes is quoted whole, one of more than 640 is not, and one between them where it takes at most 160 columns
+-- which part that is: a line of at most 160 bytes is quoted whole, one of more than 640 is not, and of one between them nothing is said here
 abbrev pub IsQuotedLine : (line : ℕ) (quoted : List ℕ) (column width : ℕ) (text : List ℕ) → Type 0
 IsQuotedLine line quoted column width text =
     (is_whole : Bool) × (front : List ℕ) × (before : List ℕ) × (marked : List ℕ) × (behind : List ℕ) × (back : List ℕ)
